@@ -1,0 +1,14 @@
+-- A faulty head shows its fault, whatever comes behind it.
+use Rattle.std.proofs.Common.{◌≡◌, List, Err, sym, ap, ◌∙◌, subst}
+use Rattle.psd_base.specs.declared.stop.Stop.{Stop}
+use Rattle.capture_reader.specs.Capture.{head_of, announced}
+use Rattle.capture_reader.specs.Source.{LookFailed}
+use Rattle.capture_reader.proofs.Ahead.{ends_head}
+use Rattle.capture_reader.proofs.source.CaptureSource.head.Goals as goal
+
+pub returns-in-Err-clause-err : goal.returns-in-Err-clause-err
+returns-in-Err-clause-err c before after =
+    let now = c.args.self.now in
+    let head = c.read_head-head.ensures ∙ ap head_of c.bytes.ensures in
+    subst (λ (stop : Stop). LookFailed now.ports now.tick now.offset now.window before after stop) (sym c.fault.ensures)
+        (ends_head now.ports now.tick now.offset now.window c.in-Err.why c.requires.whole (ap (announced now.ports now.tick) (sym head) ∙ sym c.in-Err.ensures.value))

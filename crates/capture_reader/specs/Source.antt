@@ -1,0 +1,65 @@
+-- A capture as a source of events, which is read one record ahead.
+use Rattle.std.specs.Prelude.{◌≡◌, ℕ, ◌+◌, ◌≤◌, List, [], length, Option, Some, None, option_map, Ok, Err, IfSome, IsTrue}
+use Rattle.psd_base.specs.declared.outlet.Input.TheVariants as inputs
+use Rattle.psd_base.specs.declared.stop.Stop.{Stop}
+use Rattle.psd_base.specs.declared.stop.Stop.TheVariants as stops
+use Rattle.psd_base.specs.Desk.{Rose}
+use Rattle.psd_base.specs.Event.{Happening, Seen, TimePasses, PortActs}
+use Rattle.capture_reader.specs.declared.decode.TheConstants.{PAYLOAD_MAX}
+use Rattle.capture_reader.specs.declared.form.Form.{Form}
+use Rattle.capture_reader.specs.declared.form.Form.TheVariants as forms
+use Rattle.capture_reader.specs.declared.form.Head.{Head}
+use Rattle.capture_reader.specs.Capture.{Recording, first, none_until, header, head_of, has_fit_length, kind_in, announced, records}
+use Rattle.capture_reader.specs.Window.{Held, coming, still}
+
+-- what the records say that are still to come, where the desk has these bytes left or doesn't tell
+unfoldable pub later : ℕ → ℕ → ℕ → Held → Option (List ℕ) → Option Recording
+later ports last offset held left = option_map (records ports last offset 0) (still held left)
+
+-- an event that was read ahead, and what comes after it
+abbrev pub after_ahead : Option Seen → Recording → Recording
+after_ahead None recording = recording
+after_ahead (Some event) recording = first event recording
+
+-- no event is still to come, whatever bytes the desk has left
+abbrev pub Ends : ℕ → ℕ → ℕ → Held → Option Stop → Type 0
+Ends ports last offset held stop = (left : List ℕ) → records ports last offset 0 (coming held left) ≡ none_until stop
+
+-- the bytes that are held have no whole record at their front
+abbrev pub IsPartial : ℕ → ℕ → ℕ → Held → Type 0
+IsPartial ports last offset held = (records ports last offset 0 held.bytes).events ≡ []
+
+-- why looking ahead failed: a fault that the bytes show, or a failed read, whose count rose, before a record was whole
+abbrev pub LookFailed : ℕ → ℕ → ℕ → Held → ℕ → ℕ → Stop → Type 0
+LookFailed ports last offset held faults faults_after (stops.ReadFault inputs.Capture) = Rose faults faults_after × IsPartial ports last offset held
+LookFailed ports last offset held faults faults_after (stops.Capture place why) = Ends ports last offset held (Some (stops.Capture place why))
+LookFailed ports last offset held faults faults_after stop = ⊥
+
+abbrev pub IsCaptureStop : Stop → Type 0
+IsCaptureStop (stops.Capture offset why) = Unit {0}
+IsCaptureStop stop = ⊥
+
+-- why a capture can't be opened: its header is faulty where the desk tells, or a read failed, whose count rose
+abbrev pub OpenFailed : Option (List ℕ) → ℕ → ℕ → Stop → Type 0
+OpenFailed left faults faults_after (stops.ReadFault inputs.Capture) = Rose faults faults_after
+OpenFailed left faults faults_after (stops.Capture place why) = IfSome left (λ bytes. header bytes ≡ Err (stops.Capture place why))
+OpenFailed left faults faults_after stop = ⊥
+
+-- a port of what happens is one of so many
+abbrev pub HappensWithin : ℕ → Happening → Type 0
+HappensWithin ports TimePasses = Unit {0}
+HappensWithin ports (PortActs port side act) = port ≤ ports
+
+abbrev pub IsFormWithin : ℕ → Form → Type 0
+IsFormWithin ports forms.Clock = Unit {0}
+IsFormWithin ports (forms.Act port side kind) = port ≤ ports
+
+-- the bytes begin with a sound head
+pub record Announces (ports last : ℕ) (bytes : List ℕ) (head : Head) (form : Form) : Type 0 where
+  pub whole : 8 ≤ length bytes
+  pub head_is : head_of bytes ≡ head
+  pub form_is : announced ports last head ≡ Ok form
+  pub ordered : last ≤ head.tick
+  pub port_is_within : IsFormWithin ports form
+  pub size_fits : IsTrue (has_fit_length (kind_in form) head.length)
+  pub size_is_small : head.length ≤ PAYLOAD_MAX

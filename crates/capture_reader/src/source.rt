@@ -1,0 +1,207 @@
+//! A capture as a source of events, read one record ahead.
+use crate::decode::{HEAD_SIZE, announce, read_head, read_header, read_what};
+use crate::form::{Form, Head};
+use crate::window::{WINDOW_SIZE, Window};
+use psd_base::{CaptureFault, Desk, Event, Input, MAX_PORTS, Stop, Tick};
+
+/// A capture whose header was read, and the record that was read ahead.
+#[derive(Drop)]
+pub struct CaptureSource {
+    pub window: Window,
+    pub ports: u8,
+    /// The tick of the last record that was read.
+    pub tick: Tick,
+    /// Where the next record begins, in bytes from the capture's beginning.
+    pub offset: u64,
+    pub ahead: Option<Event>,
+}
+
+impl CaptureSource {
+    ghost use Rattle.std.specs.Prelude.{◌≡◌, ℕ, ◌+◌, ◌<◌, ◌≤◌, ◌^◌, List, [], length, drop, true, false, Some, None, Ok, Err, option_map, IfOk, IfErr, IfSome, IfNone, IsSomeAnd, OnOk, OnErr};
+    ghost use Rattle.psd_base.specs.Event.{seen};
+    ghost use Rattle.capture_reader.specs.Capture.{header, capture, first, size_of, records};
+    ghost use Rattle.capture_reader.specs.Source.{later, after_ahead, Ends, LookFailed, OpenFailed, IsCaptureStop, Announces, HappensWithin};
+    ghost use Rattle.capture_reader.specs.Window.{coming, still, OnlyReads};
+
+    /// Reads the header of a capture.
+    pub fn open<D: Desk>(window: Window, desk: &mut D) -> Result<CaptureSource, Stop>
+        requires { window ≡ record { bytes = []; ended = false } }
+        ensures ports { IfOk result (λ source. (2 ≤ source.ports) × (source.ports ≤ MAX_PORTS)) }
+        ensures begin { IfOk result (λ source. (source.tick ≡ 0) × (source.offset ≡ 8) × (source.ahead ≡ None)) }
+        ensures header { IfOk result (λ source. IfSome (D.left desk.old Input.Capture) (λ bytes. header bytes ≡ Ok source.ports)) }
+        ensures records { IfOk result (λ source. option_map capture (D.left desk.old Input.Capture) ≡ later source.ports 0 8 source.window (D.left desk.new Input.Capture)) }
+        ensures err { IfErr result (OpenFailed (D.left desk.old Input.Capture) (D.read_faults desk.old Input.Capture) (D.read_faults desk.new Input.Capture)) }
+        ensures only { OnlyReads Input.Capture (D.left desk.old) (D.left desk.new) (D.sent desk.old) (D.sent desk.new) (D.read_faults desk.old) (D.read_faults desk.new) (D.write_faults desk.old) (D.write_faults desk.new) }
+    {
+        let mut window = window;
+        match window.hold(desk, Input::Capture, HEAD_SIZE) {
+            Ok(true) => CaptureSource::behind_header(window),
+            Ok(false) => Err(Stop::Capture {
+                offset: 0,
+                why: CaptureFault::Truncated,
+            }),
+            Err(_) => Err(Stop::ReadFault(Input::Capture)),
+        }
+    }
+
+    /// The records behind the header, which is held.
+    fn behind_header(window: Window) -> Result<CaptureSource, Stop>
+        requires { 8 ≤ length window.bytes }
+        ensures ports { IfOk result (λ source. (2 ≤ source.ports) × (source.ports ≤ MAX_PORTS)) }
+        ensures begin { IfOk result (λ source. (source.tick ≡ 0) × (source.offset ≡ 8) × (source.ahead ≡ None)) }
+        ensures behind { IfOk result (λ source. (header window.bytes ≡ Ok source.ports) × (source.window ≡ record window { bytes = drop 8 window.bytes })) }
+        ensures err { IfErr result (λ stop. (header window.bytes ≡ Err stop) × IsCaptureStop stop) }
+    {
+        match read_header(window.bytes()) {
+            Ok(ports) => {
+                let mut window = window;
+                window.drop_front(HEAD_SIZE);
+                Ok(CaptureSource {
+                    window,
+                    ports,
+                    tick: 0,
+                    offset: HEAD_SIZE as u64,
+                    ahead: None,
+                })
+            }
+            Err(stop) => Err(stop),
+        }
+    }
+
+    /// Looks at the next record. Afterwards it is the one that was read ahead, or there is none at the end of the capture.
+    pub fn look<D: Desk>(&mut self, desk: &mut D) -> Result<(), Stop>
+        requires ports { self.old.ports ≤ MAX_PORTS }
+        requires offset { self.old.offset < 2 ^ 63 }
+        ensures ports { self.new.ports ≡ self.old.ports }
+        ensures tick { self.old.tick ≤ self.new.tick }
+        ensures offset { self.new.offset ≤ self.old.offset + WINDOW_SIZE }
+
+        ensures read { OnOk result (later self.old.ports self.old.tick self.old.offset self.old.window (D.left desk.old Input.Capture)
+            ≡ option_map (after_ahead (option_map seen self.new.ahead)) (later self.new.ports self.new.tick self.new.offset self.new.window (D.left desk.new Input.Capture))) }
+        ensures ahead { OnOk result (IfSome self.new.ahead (λ event. (event.tick ≡ self.new.tick) × HappensWithin self.new.ports (seen event).happening)) }
+        ensures end { OnOk result (IfNone self.new.ahead (Ends self.new.ports self.new.tick self.new.offset self.new.window None)) }
+
+        ensures err { IfErr result (LookFailed self.new.ports self.new.tick self.new.offset self.new.window (D.read_faults desk.old Input.Capture) (D.read_faults desk.new Input.Capture)) }
+        ensures stays { OnErr result (later self.new.ports self.new.tick self.new.offset self.new.window (D.left desk.new Input.Capture)
+            ≡ later self.old.ports self.old.tick self.old.offset self.old.window (D.left desk.old Input.Capture)) }
+        ensures none { OnErr result (self.new.ahead ≡ None) }
+
+        ensures only { OnlyReads Input.Capture (D.left desk.old) (D.left desk.new) (D.sent desk.old) (D.sent desk.new) (D.read_faults desk.old) (D.read_faults desk.new) (D.write_faults desk.old) (D.write_faults desk.new) }
+    {
+        self.ahead = None;
+        match self.look_at_head(desk) {
+            Ok(Some((head, form))) => self.look_at_payload(desk, &head, form),
+            Ok(None) => Ok(()),
+            Err(stop) => Err(stop),
+        }
+    }
+
+    /// Looks at the head of the next record. There is none at the end of the capture.
+    fn look_at_head<D: Desk>(&mut self, desk: &mut D) -> Result<Option<(Head, Form)>, Stop>
+        requires ports { self.old.ports ≤ MAX_PORTS }
+        ensures same { self.new ≡ record self.old { window = self.new.window } }
+        ensures still { still self.new.window (D.left desk.new Input.Capture) ≡ still self.old.window (D.left desk.old Input.Capture) }
+        ensures head { IfOk result (λ found. IfSome found (λ head. Announces self.new.ports self.new.tick self.new.window.bytes head.0 head.1)) }
+        ensures end { IfOk result (λ found. IfNone found (Ends self.new.ports self.new.tick self.new.offset self.new.window None)) }
+        ensures err { IfErr result (LookFailed self.new.ports self.new.tick self.new.offset self.new.window (D.read_faults desk.old Input.Capture) (D.read_faults desk.new Input.Capture)) }
+        ensures only { OnlyReads Input.Capture (D.left desk.old) (D.left desk.new) (D.sent desk.old) (D.sent desk.new) (D.read_faults desk.old) (D.read_faults desk.new) (D.write_faults desk.old) (D.write_faults desk.new) }
+    {
+        match self.window.hold(desk, Input::Capture, HEAD_SIZE) {
+            Ok(true) => self.head(),
+            Ok(false) => self.end(),
+            Err(_) => Err(Stop::ReadFault(Input::Capture)),
+        }
+    }
+
+    /// Looks at the payload of the next record, whose head is held.
+    fn look_at_payload<D: Desk>(&mut self, desk: &mut D, head: &Head, form: Form) -> Result<(), Stop>
+        requires sound { Announces self.old.ports self.old.tick self.old.window.bytes head.now form }
+        requires offset { self.old.offset < 2 ^ 63 }
+        ensures ports { self.new.ports ≡ self.old.ports }
+        ensures tick { self.old.tick ≤ self.new.tick }
+        ensures offset { self.new.offset ≤ self.old.offset + WINDOW_SIZE }
+        ensures ok { OnOk result (IsSomeAnd self.new.ahead (λ event. (event.tick ≡ self.new.tick) × HappensWithin self.new.ports (seen event).happening
+            × (later self.old.ports self.old.tick self.old.offset self.old.window (D.left desk.old Input.Capture)
+            ≡ option_map (first (seen event)) (later self.new.ports self.new.tick self.new.offset self.new.window (D.left desk.new Input.Capture))))) }
+        ensures err { IfErr result (LookFailed self.old.ports self.old.tick self.old.offset self.new.window (D.read_faults desk.old Input.Capture) (D.read_faults desk.new Input.Capture)) }
+        ensures same { OnErr result (self.new ≡ record self.old { window = self.new.window }) }
+        ensures stays { OnErr result (later self.new.ports self.new.tick self.new.offset self.new.window (D.left desk.new Input.Capture)
+            ≡ later self.old.ports self.old.tick self.old.offset self.old.window (D.left desk.old Input.Capture)) }
+        ensures only { OnlyReads Input.Capture (D.left desk.old) (D.left desk.new) (D.sent desk.old) (D.sent desk.new) (D.read_faults desk.old) (D.read_faults desk.new) (D.write_faults desk.old) (D.write_faults desk.new) }
+    {
+        let size = HEAD_SIZE + head.length as usize;
+        match self.window.hold(desk, Input::Capture, size) {
+            Ok(true) => self.take_record(head, form),
+            Ok(false) => Err(self.fault(CaptureFault::Truncated)),
+            Err(_) => Err(Stop::ReadFault(Input::Capture)),
+        }
+    }
+
+    /// The head of the next record, which is held.
+    fn head(&self) -> Result<Option<(Head, Form)>, Stop>
+        requires whole { 8 ≤ length self.now.window.bytes }
+        requires ports { self.now.ports ≤ MAX_PORTS }
+        ensures ok { IfOk result (λ found. IsSomeAnd found (λ head. Announces self.now.ports self.now.tick self.now.window.bytes head.0 head.1)) }
+        ensures err { (before after : ℕ) → IfErr result (LookFailed self.now.ports self.now.tick self.now.offset self.now.window before after) }
+    {
+        let head = read_head(self.window.bytes());
+        match announce(self.ports, self.tick, &head) {
+            Ok(form) => Ok(Some((head, form))),
+            Err(why) => Err(self.fault(why)),
+        }
+    }
+
+    /// No head, where the input ended before one is whole.
+    fn end(&self) -> Result<Option<(Head, Form)>, Stop>
+        requires ended { self.now.window.ended ≡ true }
+        requires short { length self.now.window.bytes < 8 }
+        ensures ok { IfOk result (λ found. (found ≡ None) × Ends self.now.ports self.now.tick self.now.offset self.now.window None) }
+        ensures err { (before after : ℕ) → IfErr result (LookFailed self.now.ports self.now.tick self.now.offset self.now.window before after) }
+    {
+        if self.window.len() == 0 {
+            return Ok(None);
+        }
+        Err(self.fault(CaptureFault::Truncated))
+    }
+
+    /// The fault of the next record.
+    fn fault(&self, why: CaptureFault) -> Stop
+        ensures { result ≡ Stop.Capture self.now.offset why }
+    {
+        Stop::Capture {
+            offset: self.offset,
+            why,
+        }
+    }
+
+    /// The next record, which is held, becomes the one that was read ahead.
+    fn take_record(&mut self, head: &Head, form: Form) -> Result<(), Stop>
+        requires sound { Announces self.old.ports self.old.tick self.old.window.bytes head.now form }
+        requires enough { size_of head.now ≤ length self.old.window.bytes }
+        requires offset { self.old.offset < 2 ^ 63 }
+        ensures ports { self.new.ports ≡ self.old.ports }
+        ensures tick { OnOk result (self.new.tick ≡ head.now.tick) }
+        ensures offset { OnOk result (self.new.offset ≡ self.old.offset + size_of head.now) }
+        ensures ahead { OnOk result (IsSomeAnd self.new.ahead (λ event. (event.tick ≡ self.new.tick) × HappensWithin self.new.ports (seen event).happening
+            × ((left : List ℕ) → records self.old.ports self.old.tick self.old.offset 0 (coming self.old.window left)
+            ≡ first (seen event) (records self.new.ports self.new.tick self.new.offset 0 (coming self.new.window left))))) }
+        ensures err { (before after : ℕ) → IfErr result (LookFailed self.old.ports self.old.tick self.old.offset self.new.window before after) }
+        ensures same { OnErr result (self.new ≡ self.old) }
+    {
+        let size = HEAD_SIZE + head.length as usize;
+        let payload = &self.window.bytes()[HEAD_SIZE..size];
+        match read_what(form, payload) {
+            Ok(what) => {
+                self.window.drop_front(size);
+                self.offset += size as u64;
+                self.tick = head.tick;
+                self.ahead = Some(Event {
+                    tick: head.tick,
+                    what,
+                });
+                Ok(())
+            }
+            Err(why) => Err(self.fault(why)),
+        }
+    }
+}

@@ -1,0 +1,5 @@
+mod Examples
+pub mod Dues
+pub mod Histories
+pub mod Rows
+pub mod Stages

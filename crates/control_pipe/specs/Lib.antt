@@ -1,0 +1,10 @@
+pub mod Control
+pub mod Decoding
+pub mod Lending
+pub mod PipeStands
+pub mod PipeStep
+pub mod Progress
+pub mod Registers
+pub mod Requests
+pub mod Transfer
+pub mod TransferFields

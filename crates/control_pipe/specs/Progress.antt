@@ -1,0 +1,75 @@
+-- How far a control transfer is, with what is still needed of it, and the exact step at each transaction.
+use Rattle.std.specs.Prelude.{ℕ, ◌+◌, ◌*◌, ◌%◌, Bool, true, not, ◌&&◌, ◌==◌, nat_lt, nat_le, List, [], ◌++◌, length, take, drop, Option, Some, None, if◌then◌else◌}
+use Rattle.psd_base.specs.declared.setup.Setup.{Setup}
+use Rattle.psd_base.specs.declared.act.Answer.{Answer}
+use Rattle.psd_base.specs.declared.act.Answer.TheVariants as answer
+use Rattle.psd_base.specs.declared.packet.TheConstants.{PACKET_SIZE}
+use Rattle.control_pipe.specs.Requests.{when}
+use Rattle.control_pipe.specs.Transfer.{Form, Reading, Writing, NoData, form_of, packets_of, same_toggle}
+
+pub data Progress : Type 0 where
+  -- all is answered STALL: no setup since the bus reset, a request that isn't supported, or a transfer that is over
+  Refusing : Progress
+  -- the data, the maximum packet size, the number of packets, and how many of them were acknowledged
+  DataIn : List ℕ → ℕ → ℕ → ℕ → Progress
+  StatusOut : Progress
+  -- the setup, the bytes that are in, and the next toggle
+  DataOut : Setup → List ℕ → Bool → Progress
+  StatusIn : Setup → Progress
+
+abbrev pub first_stage : Form → Setup → List ℕ → Progress
+first_stage Reading setup bytes = DataIn bytes PACKET_SIZE (packets_of (length bytes) setup.length PACKET_SIZE) 0
+first_stage Writing setup bytes = DataOut setup [] true
+first_stage NoData setup bytes = StatusIn setup
+
+-- a setup was taken for which these data are due
+abbrev pub begun_progress : Setup → Option (List ℕ) → Progress
+begun_progress setup None = Refusing
+begun_progress setup (Some due) = first_stage (form_of setup) setup (take setup.length due)
+
+abbrev pub in_answer : Progress → Answer
+in_answer Refusing = answer.Stall
+in_answer (DataIn bytes maximum count sent) = answer.Data (sent % 2 == 0) (take maximum (drop (sent * maximum) bytes))
+in_answer StatusOut = answer.Stall
+in_answer (DataOut setup bytes next) = if length bytes == setup.length then answer.Data true [] else answer.Stall
+in_answer (StatusIn setup) = answer.Data true []
+
+abbrev pub after_in : Bool → Progress → Progress
+after_in acked Refusing = Refusing
+after_in acked (DataIn bytes maximum count sent) =
+    if acked then (if nat_lt (1 + sent) count then DataIn bytes maximum count (1 + sent) else StatusOut) else DataIn bytes maximum count sent
+after_in acked StatusOut = Refusing
+after_in acked (DataOut setup bytes next) = if length bytes == setup.length && not acked then DataOut setup bytes next else Refusing
+after_in acked (StatusIn setup) = if acked then Refusing else StatusIn setup
+
+-- the setup and the bytes of the request that an acknowledged IN completes
+abbrev pub completion : Progress → Option (Setup × List ℕ)
+completion Refusing = None
+completion (DataIn bytes maximum count sent) = None
+completion StatusOut = None
+completion (DataOut setup bytes next) = when (length bytes == setup.length) (setup, bytes)
+completion (StatusIn setup) = Some (setup, [])
+
+-- whether an OUT can be the status stage of a transfer whose data went to the host
+abbrev pub is_status_out : Bool → List ℕ → Bool
+is_status_out toggle packet = toggle && length packet == 0
+
+-- whether a packet fits what the host announced, after these bytes
+abbrev pub is_room_for : List ℕ → List ℕ → ℕ → Bool
+is_room_for packet bytes asked = nat_lt (length bytes) asked && nat_le (length bytes + length packet) asked
+
+abbrev pub out_answer : Bool → List ℕ → Progress → Answer
+out_answer toggle packet Refusing = answer.Stall
+out_answer toggle packet (DataIn bytes maximum count sent) = if is_status_out toggle packet then answer.Ack else answer.Stall
+out_answer toggle packet StatusOut = if is_status_out toggle packet then answer.Ack else answer.Stall
+out_answer toggle packet (DataOut setup bytes next) =
+    if same_toggle toggle next then (if is_room_for packet bytes setup.length then answer.Ack else answer.Stall) else answer.Ack
+out_answer toggle packet (StatusIn setup) = answer.Stall
+
+abbrev pub after_out : Bool → List ℕ → Progress → Progress
+after_out toggle packet Refusing = Refusing
+after_out toggle packet (DataIn bytes maximum count sent) = if is_status_out toggle packet then StatusOut else Refusing
+after_out toggle packet StatusOut = if is_status_out toggle packet then StatusOut else Refusing
+after_out toggle packet (DataOut setup bytes next) =
+    if same_toggle toggle next then (if is_room_for packet bytes setup.length then DataOut setup (bytes ++ packet) (not toggle) else Refusing) else DataOut setup bytes next
+after_out toggle packet (StatusIn setup) = Refusing

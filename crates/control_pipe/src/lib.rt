@@ -1,0 +1,13 @@
+//! Control transfers at endpoint 0 of an emulated device (USB 2.0, 8.5.3 and chapter 9).
+#![tactic(auto)]
+
+pub mod function;
+pub mod pipe;
+pub mod reaction;
+mod registers;
+mod request;
+mod transfer;
+
+pub use function::Function;
+pub use pipe::Pipe;
+pub use reaction::{Effect, Reaction};

@@ -1,0 +1,276 @@
+//! The control endpoint of an emulated device.
+ghost use Rattle.std.specs.Prelude.{◌≡◌, ◌≤◌, ℕ, List, [], ◌∷◌, ◌==◌, length, None, if◌then◌else◌};
+ghost use Rattle.control_pipe.specs.PipeStep.{request_function, request_registers, request_effect};
+ghost use Rattle.psd_base.specs.declared.packet.TheConstants.{PACKET_SIZE};
+ghost use Rattle.std.specs.Borrow.{sem};
+ghost use Rattle.control_pipe.specs.Control.{ControlAct, IsControlAct, offer_for, offer_at, moment_of, control_answer, control_effect, control_function, address_after, is_configured_after, is_halted_after};
+ghost use Rattle.control_pipe.specs.Decoding.{request_of};
+ghost use Rattle.control_pipe.specs.Progress.{Refusing, begun_progress, after_in, in_answer, completion};
+ghost use Rattle.control_pipe.specs.Registers.{is_configured, halted_at, reset_registers};
+
+use crate::function::Function;
+use crate::reaction::{Effect, Reaction};
+use crate::registers::Registers;
+use crate::request::Request;
+use crate::transfer::{Completed, Transfer};
+use psd_base::act::{Act, Answer};
+use psd_base::event::Tick;
+use psd_base::setup::Setup;
+use std::marker::Model;
+
+/// The control endpoint of an emulated device with this function: its address, configuration and halts, and the
+/// present control transfer.
+#[derive(Debug, Drop)]
+pub struct Pipe<F> {
+    function: F,
+    registers: Registers,
+    transfer: Transfer,
+}
+
+impl<F> Model for Pipe<F> {
+    ghost use Rattle.control_pipe.specs.PipeStands.{PipeValue};
+
+    ghost Value = { PipeValue F };
+
+    ghost view = { λ pipe. record { function = pipe.function; registers = pipe.registers; progress = pipe.transfer } };
+}
+
+impl<F: Function> Pipe<F> {
+    ghost use Rattle.control_pipe.specs.PipeStands.{PipeStands};
+    ghost use Rattle.control_pipe.specs.Lending.{LendsFunction};
+    ghost use Rattle.control_pipe.specs.PipeStep.{due_for, completed_by, registers_at, progress_at, answer_at, effect_at, completed_function, completed_registers, completed_effect};
+
+    /// A device in its default state: at address 0, not configured, and nothing halted.
+    pub fn new(function: F) -> Pipe<F>
+        ensures stands { PipeStands result [] }
+        ensures function { result.function ≡ function }
+    {
+        Pipe {
+            function,
+            registers: Registers::new(),
+            transfer: Transfer::new(),
+        }
+    }
+
+    /// Takes an act at endpoint 0, or a bus reset, at this tick, and gives what it is answered and what it completed.
+    pub fn act(&mut self, tick: Tick, act: &Act) -> Reaction
+        requires { IsControlAct act.now }
+        ensures stands { (past : List ControlAct) → PipeStands self.old past
+            → PipeStands self.new (moment_of (F.descriptor_of self.old.function) (F.class_input_of self.old.function) F.takes_class act.now ∷ past) }
+        ensures answer { (past : List ControlAct) → PipeStands self.old past → result.answer ≡ control_answer past act.now }
+        ensures effect { (past : List ControlAct) → PipeStands self.old past
+            → result.effect ≡ control_effect past (moment_of (F.descriptor_of self.old.function) (F.class_input_of self.old.function) F.takes_class act.now) }
+        ensures function { (past : List ControlAct) → PipeStands self.old past → self.new.function ≡ control_function F.after_class past tick act.now self.old.function }
+    {
+        self.step(tick, act)
+    }
+
+    /// The device's address (USB 2.0, 9.4.6).
+    pub fn address(&self) -> u8
+        ensures { (past : List ControlAct) → PipeStands self.now past → result ≡ address_after past }
+    {
+        self.registers.address
+    }
+
+    /// Whether the device is configured (USB 2.0, 9.4.7).
+    pub fn configured(&self) -> bool
+        ensures { (past : List ControlAct) → PipeStands self.now past → result ≡ is_configured_after past }
+    {
+        self.registers.is_configured()
+    }
+
+    /// Whether an endpoint is halted (USB 2.0, 9.4.5). Only the interrupt endpoints 1 and 2 can be.
+    pub fn halted(&self, endpoint: u8) -> bool
+        ensures { (past : List ControlAct) → PipeStands self.now past → result ≡ is_halted_after endpoint past }
+    {
+        self.registers.is_halted(endpoint)
+    }
+
+    /// The device's function.
+    pub fn function(&self) -> &F
+        ensures { result.now ≡ self.now.function }
+    {
+        &self.function
+    }
+
+    /// The device's function, to be changed from outside. The rest of the pipe stays as it is.
+    pub fn function_mut(&mut self) -> &mut F
+        ensures* writes_back { sem 𝓛 (LendsFunction F.row self.entry result) }
+        ensures value { result.now ≡ self.old.function }
+    {
+        &mut self.function
+    }
+
+    /// Takes an act, with the exact step.
+    fn step(&mut self, tick: Tick, act: &Act) -> Reaction
+        ensures registers { self.new.registers ≡ registers_at self.old.registers self.old.progress act.now }
+        ensures progress { self.new.progress ≡ progress_at self.old.registers self.old.progress (offer_at (F.descriptor_of self.old.function) (F.class_input_of self.old.function) F.takes_class act.now) act.now }
+        ensures function { self.new.function ≡ completed_function F.after_class tick (completed_by self.old.registers self.old.progress act.now) self.old.function }
+        ensures answer { result.answer ≡ answer_at self.old.registers self.old.progress act.now }
+        ensures effect { result.effect ≡ effect_at self.old.registers self.old.progress act.now }
+    {
+        match act {
+            Act::Reset => self.reset(),
+            Act::Setup { address, setup } => {
+                if *address != self.registers.address {
+                    return silence();
+                }
+                self.begin(setup);
+                Reaction {
+                    answer: Answer::Ack,
+                    effect: Effect::Nothing,
+                }
+            }
+            Act::Out {
+                address,
+                endpoint: _,
+                toggle,
+                bytes,
+            } => {
+                if *address != self.registers.address {
+                    return silence();
+                }
+                Reaction {
+                    answer: self.transfer.take_out(*toggle, bytes.as_slice()),
+                    effect: Effect::Nothing,
+                }
+            }
+            Act::In {
+                address,
+                endpoint: _,
+                acked,
+            } => {
+                if *address != self.registers.address {
+                    return silence();
+                }
+                self.take_in(tick, *acked)
+            }
+        }
+    }
+
+    /// Takes a bus reset.
+    fn reset(&mut self) -> Reaction
+        ensures registers { self.new.registers ≡ reset_registers }
+        ensures progress { self.new.progress ≡ Refusing }
+        ensures function { self.new.function ≡ self.old.function }
+        ensures answer { result.answer ≡ Answer.Silent }
+        ensures effect { result.effect ≡ Effect.Reset }
+    {
+        self.registers = Registers::new();
+        self.transfer.refuse();
+        Reaction {
+            answer: Answer::Silent,
+            effect: Effect::Reset,
+        }
+    }
+
+    /// Takes up the request of a setup.
+    fn begin(&mut self, setup: &Setup)
+        ensures progress { self.new.progress ≡ begun_progress setup.now (due_for self.old.registers (offer_for (F.descriptor_of self.old.function) (F.class_input_of self.old.function) F.takes_class setup.now) (request_of setup.now)) }
+        ensures registers { self.new.registers ≡ self.old.registers }
+        ensures function { self.new.function ≡ self.old.function }
+    {
+        match Request::of(setup) {
+            None => self.transfer.begin(setup, None),
+            Some(Request::Standard(request)) => {
+                let due = self.registers.reply(request);
+                self.transfer.begin(setup, due);
+            }
+            Some(Request::Descriptor) => {
+                let due = self.function.descriptor(setup);
+                self.transfer.begin(setup, due);
+            }
+            Some(Request::ClassIn) => self.begin_class_in(setup),
+            Some(Request::ClassOut) => {
+                if self.registers.is_configured() && self.function.class_takes(setup) {
+                    self.transfer.begin(setup, Some(&[]));
+                } else {
+                    self.transfer.begin(setup, None);
+                }
+            }
+        }
+    }
+
+    /// Takes up a class request that reads.
+    fn begin_class_in(&mut self, setup: &Setup)
+        requires reads { 128 ≤ setup.now.kind }
+        ensures progress { self.new.progress ≡ begun_progress setup.now (if is_configured self.old.registers then F.class_input_of self.old.function setup.now else None) }
+        ensures registers { self.new.registers ≡ self.old.registers }
+        ensures function { self.new.function ≡ self.old.function }
+    {
+        if !self.registers.is_configured() {
+            self.transfer.begin(setup, None);
+            return;
+        }
+        match self.function.class_in(setup) {
+            Some(packet) => self.transfer.begin(setup, Some(packet.as_slice())),
+            None => self.transfer.begin(setup, None),
+        }
+    }
+
+    /// Takes an IN at the device's address.
+    fn take_in(&mut self, tick: Tick, acked: bool) -> Reaction
+        ensures progress { self.new.progress ≡ after_in acked self.old.progress }
+        ensures registers { self.new.registers ≡ completed_registers (if acked then completion self.old.progress else None) self.old.registers }
+        ensures function { self.new.function ≡ completed_function F.after_class tick (if acked then completion self.old.progress else None) self.old.function }
+        ensures answer { result.answer ≡ in_answer self.old.progress }
+        ensures effect { result.effect ≡ completed_effect (if acked then completion self.old.progress else None) }
+    {
+        let effect = if acked {
+            self.complete(tick)
+        } else {
+            Effect::Nothing
+        };
+        let answer = self.transfer.take_in(acked);
+        Reaction { answer, effect }
+    }
+
+    /// Carries out the request that an acknowledged IN completes, if it does.
+    fn complete(&mut self, tick: Tick) -> Effect
+        ensures progress { self.new.progress ≡ self.old.progress }
+        ensures registers { self.new.registers ≡ completed_registers (completion self.old.progress) self.old.registers }
+        ensures function { self.new.function ≡ completed_function F.after_class tick (completion self.old.progress) self.old.function }
+        ensures effect { result ≡ completed_effect (completion self.old.progress) }
+    {
+        match self.transfer.completed() {
+            None => Effect::Nothing,
+            Some(done) => carry_out(&mut self.function, &mut self.registers, tick, &done),
+        }
+    }
+}
+
+/// An act at another address isn't answered.
+fn silence() -> Reaction
+    ensures answer { result.answer ≡ Answer.Silent }
+    ensures effect { result.effect ≡ Effect.Nothing }
+{
+    Reaction {
+        answer: Answer::Silent,
+        effect: Effect::Nothing,
+    }
+}
+
+/// Carries out a completed request.
+fn carry_out<F: Function>(
+    function: &mut F,
+    registers: &mut Registers,
+    tick: Tick,
+    done: &Completed<'_>,
+) -> Effect
+    requires whole { length done.now.bytes.now ≡ done.now.setup.length }
+    requires fits { length done.now.bytes.now ≤ PACKET_SIZE }
+    ensures registers { registers.new ≡ request_registers (request_of done.now.setup) registers.old }
+    ensures function { function.new ≡ request_function (F.after_class function.old tick done.now.setup) (request_of done.now.setup) function.old done.now.bytes.now }
+    ensures effect { result ≡ request_effect (request_of done.now.setup) }
+{
+    match Request::of(&done.setup) {
+        None => Effect::Nothing,
+        Some(Request::Standard(request)) => registers.complete(request),
+        Some(Request::Descriptor) => Effect::Nothing,
+        Some(Request::ClassIn) => Effect::Nothing,
+        Some(Request::ClassOut) => {
+            function.class_out(tick, &done.setup, done.bytes);
+            Effect::Nothing
+        }
+    }
+}

@@ -1,0 +1,275 @@
+//! The stages of one control transfer (USB 2.0, 8.5.3).
+ghost use Rattle.std.specs.Prelude.{◌≡◌, ◌+◌, ◌*◌, ◌%◌, ◌==◌, ◌<◌, ◌≤◌, true, [], length, take, drop, IfSome, option_map, if◌then◌else◌};
+ghost use Rattle.std.specs.Option.{ForSome, option_copied};
+ghost use Rattle.control_pipe.specs.Transfer.{form_of, packets_of};
+
+use arrayvec::ArrayVec;
+use psd_base::act::Answer;
+use psd_base::packet::{BLOCK_SIZE, PACKET_SIZE, Packet};
+use psd_base::setup::Setup;
+use std::marker::Model;
+
+/// The stages of a control transfer.
+#[derive(Clone, Copy, Debug, PartialEq, Eq)]
+pub(crate) enum Stage {
+    /// All is answered STALL: no setup since the bus reset, a request that isn't supported, or a transfer that is over.
+    Refusing,
+    /// The data go to the host, in `count` packets, of which `sent` were acknowledged.
+    DataIn { sent: usize, count: usize },
+    /// The host's empty packet, which ends a transfer whose data went to it, is awaited or came already.
+    StatusOut,
+    /// The data come from the host. `toggle` is that of the next packet.
+    DataOut { toggle: bool },
+    /// There are no data, and the empty packet that ends the transfer is due.
+    StatusIn,
+}
+
+/// One control transfer. Contracts see how far it is.
+#[derive(Debug, Drop)]
+pub(crate) struct Transfer {
+    setup: Setup,
+    stage: Stage,
+    bytes: ArrayVec<u8, 1024>,
+}
+
+impl Model for Transfer {
+    ghost use Rattle.control_pipe.specs.Progress.{Progress};
+
+    ghost Value = { Progress };
+
+    ghost use Rattle.control_pipe.specs.TransferFields.{progress_in, IsSound};
+
+    ghost view = { λ transfer. progress_in transfer.stage transfer.setup transfer.bytes.items };
+
+    ghost invariant = { λ transfer. IsSound transfer.stage transfer.setup transfer.bytes.items };
+}
+
+impl Transfer {
+    ghost use Rattle.control_pipe.specs.Progress.{Progress, Refusing, StatusOut, begun_progress, first_stage, in_answer, after_in, completion, is_status_out, out_answer, after_out};
+
+    /// No transfer yet.
+    pub(crate) fn new() -> Transfer
+        ensures { result ≡ Refusing }
+    {
+        Transfer {
+            setup: Setup {
+                kind: 0,
+                request: 0,
+                value: 0,
+                index: 0,
+                length: 0,
+            },
+            stage: Stage::Refusing,
+            bytes: ArrayVec::new(),
+        }
+    }
+
+    /// Refuses all until the next setup.
+    pub(crate) fn refuse(&mut self)
+        ensures { self.new ≡ Refusing }
+    {
+        self.stage = Stage::Refusing;
+    }
+
+    /// Begins the transfer of a setup. Where no data are due, not even empty ones, the request isn't supported.
+    pub(crate) fn begin(&mut self, setup: &Setup, due: Option<&[u8]>)
+        requires short { ForSome due (λ bytes. length bytes.now ≤ BLOCK_SIZE) }
+        requires writes_little { ForSome due (λ _. setup.now.kind < 128 → setup.now.length ≤ PACKET_SIZE) }
+        ensures { self.new ≡ begun_progress setup.now (option_copied due.entry) }
+    {
+        match due {
+            Some(bytes) => self.begin_supported(setup, bytes),
+            None => self.refuse(),
+        }
+    }
+
+    /// Begins the transfer of a supported request.
+    fn begin_supported(&mut self, setup: &Setup, due: &[u8])
+        requires short { length due.now ≤ BLOCK_SIZE }
+        requires writes_little { setup.now.kind < 128 → setup.now.length ≤ PACKET_SIZE }
+        ensures { self.new ≡ first_stage (form_of setup.now) setup.now (take setup.now.length due.now) }
+    {
+        self.setup = *setup;
+        self.bytes.clear();
+        if setup.length == 0 {
+            self.stage = Stage::StatusIn;
+        } else if setup.kind < 0x80 {
+            self.stage = Stage::DataOut { toggle: true };
+        } else {
+            let cut = cut_to(due, setup.length);
+            let _ = self.bytes.try_extend_from_slice(cut);
+            self.stage = Stage::DataIn {
+                sent: 0,
+                count: packet_count(cut.len(), setup.length),
+            };
+        }
+    }
+
+    /// Takes an IN, and gives what it is answered.
+    pub(crate) fn take_in(&mut self, acked: bool) -> Answer
+        ensures answer { result ≡ in_answer self.old }
+        ensures after { self.new ≡ after_in acked self.old }
+    {
+        match self.stage {
+            Stage::Refusing => Answer::Stall,
+            Stage::DataIn { sent, count } => {
+                if acked {
+                    self.stage = if 1 + sent < count {
+                        Stage::DataIn {
+                            sent: 1 + sent,
+                            count,
+                        }
+                    } else {
+                        Stage::StatusOut
+                    };
+                }
+                data_packet(self.bytes.as_slice(), sent)
+            }
+            Stage::StatusOut => self.stall(),
+            Stage::DataOut { .. } => {
+                if self.bytes.len() == self.setup.length as usize {
+                    self.end(acked)
+                } else {
+                    self.stall()
+                }
+            }
+            Stage::StatusIn => self.end(acked),
+        }
+    }
+
+    /// What an acknowledged IN completes.
+    pub(crate) fn completed(&self) -> Option<Completed<'_>>
+        ensures value { option_map (λ done. (done.setup, done.bytes.now)) result ≡ completion self.now }
+        ensures whole { IfSome result (λ done. length done.bytes.now ≡ done.setup.length) }
+        ensures fits { IfSome result (λ done. length done.bytes.now ≤ PACKET_SIZE) }
+    {
+        match self.stage {
+            Stage::Refusing => None,
+            Stage::DataIn { .. } => None,
+            Stage::StatusOut => None,
+            Stage::DataOut { .. } => {
+                if self.bytes.len() == self.setup.length as usize {
+                    Some(Completed {
+                        setup: self.setup,
+                        bytes: self.bytes.as_slice(),
+                    })
+                } else {
+                    None
+                }
+            }
+            Stage::StatusIn => Some(Completed {
+                setup: self.setup,
+                bytes: self.bytes.as_slice(),
+            }),
+        }
+    }
+
+    /// Takes an OUT, and gives what it is answered.
+    pub(crate) fn take_out(&mut self, toggle: bool, packet: &[u8]) -> Answer
+        ensures answer { result ≡ out_answer toggle packet.now self.old }
+        ensures after { self.new ≡ after_out toggle packet.now self.old }
+    {
+        match self.stage {
+            Stage::Refusing => Answer::Stall,
+            Stage::DataIn { .. } => self.take_status(toggle, packet),
+            Stage::StatusOut => self.take_status(toggle, packet),
+            Stage::DataOut { toggle: next } => {
+                if toggle != next {
+                    return Answer::Ack;
+                }
+                let count = self.bytes.len();
+                let asked = self.setup.length as usize;
+                if count < asked && count + packet.len() <= asked {
+                    let _ = self.bytes.try_extend_from_slice(packet);
+                    self.stage = Stage::DataOut { toggle: !toggle };
+                    Answer::Ack
+                } else {
+                    self.stall()
+                }
+            }
+            Stage::StatusIn => self.stall(),
+        }
+    }
+
+    /// Takes an OUT that can only be the status stage.
+    fn take_status(&mut self, toggle: bool, packet: &[u8]) -> Answer
+        ensures answer { result ≡ (if is_status_out toggle packet.now then Answer.Ack else Answer.Stall) }
+        ensures after { self.new ≡ (if is_status_out toggle packet.now then StatusOut else Refusing) }
+    {
+        if toggle && packet.is_empty() {
+            self.stage = Stage::StatusOut;
+            Answer::Ack
+        } else {
+            self.stall()
+        }
+    }
+
+    /// Refuses an act that doesn't fit, and all later ones.
+    fn stall(&mut self) -> Answer
+        ensures answer { result ≡ Answer.Stall }
+        ensures after { self.new ≡ Refusing }
+    {
+        self.stage = Stage::Refusing;
+        Answer::Stall
+    }
+
+    /// Gives the empty packet of the status stage.
+    fn end(&mut self, acked: bool) -> Answer
+        ensures answer { result ≡ Answer.Data true [] }
+        ensures after { self.new ≡ (if acked then Refusing else self.old) }
+    {
+        if acked {
+            self.stage = Stage::Refusing;
+        }
+        Answer::Data {
+            toggle: true,
+            bytes: Packet::new(),
+        }
+    }
+}
+
+/// A request whose status stage is acknowledged.
+#[derive(Clone, Copy)]
+pub(crate) struct Completed<'a> {
+    pub(crate) setup: Setup,
+    /// The bytes that the host sent.
+    pub(crate) bytes: &'a [u8],
+}
+
+/// The first bytes, as many as the host asked for.
+fn cut_to(bytes: &[u8], asked: u16) -> &[u8]
+    ensures value { result.now ≡ take asked bytes.now }
+    ensures fits { length result.now ≤ asked }
+{
+    let asked = asked as usize;
+    if asked < bytes.len() {
+        &bytes[..asked]
+    } else {
+        bytes
+    }
+}
+
+/// How many packets so many bytes take, where the host asked for `asked`. A packet below the maximum size, an empty one
+/// if need be, ends data that are shorter than that.
+fn packet_count(count: usize, asked: u16) -> usize
+    requires { count ≤ BLOCK_SIZE }
+    ensures { result ≡ packets_of count asked PACKET_SIZE }
+{
+    if count < asked as usize {
+        count / PACKET_SIZE + 1
+    } else {
+        (count + (PACKET_SIZE - 1)) / PACKET_SIZE
+    }
+}
+
+/// The packet of this number, counted from 0, as an answer.
+fn data_packet(bytes: &[u8], number: usize) -> Answer
+    requires { number * PACKET_SIZE ≤ length bytes.now }
+    ensures { result ≡ Answer.Data (number % 2 == 0) (take PACKET_SIZE (drop (number * PACKET_SIZE) bytes.now)) }
+{
+    let rest = &bytes[number * PACKET_SIZE..];
+    Answer::Data {
+        toggle: number % 2 == 0,
+        bytes: Packet::from_slice(cut_to(rest, PACKET_SIZE as u16)),
+    }
+}

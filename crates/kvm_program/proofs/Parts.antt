@@ -1,0 +1,42 @@
+-- Outlets that grew by a text, or by a part of it.
+use Rattle.std.proofs.Common.{◌≡◌, ℕ, ◌+◌, ◌≤◌, List, [], ◌∷◌, ◌++◌, length, take, min, Option, Some, None, option_map, refl, sym, ap, ◌∙◌, append_assoc, arith}
+use Rattle.std.proofs.lemmas.List.{take-append-le, take_min, append-nil}
+use Rattle.std.proofs.Math.Seq.{take-append-add, take-append_seam, take-length}
+use Rattle.psd_base.specs.Desk.{IsAppendedPart}
+use Rattle.kvm_program.specs.Outlets.{Grew}
+
+-- no text leaves an outlet as it was
+pub Grew-nothing : (before after : Option (List ℕ)) → after ≡ before → Grew before after []
+Grew-nothing None after same = same
+Grew-nothing (Some sent) after same = same ∙ ap Some (sym (append-nil sent))
+
+-- one text after another
+pub Grew-more : (before mid after : Option (List ℕ)) (first second : List ℕ) → Grew before mid first → Grew mid after second → Grew before after (first ++ second)
+Grew-more None mid after first second one two = rw (two, one) refl
+Grew-more (Some sent) mid after first second one two = rw (two, one) (ap Some (append_assoc sent first second))
+
+-- the first so many of a text that goes on
+front : (first second third : List ℕ) (count : ℕ) → take (length first + min count (length second)) ((first ++ second) ++ third) ≡ first ++ take count second
+front first second third count =
+    let short : min count (length second) ≤ length second = omega arith in
+    rw append_assoc (rw take-append-add (ap (λ (text : List ℕ). first ++ text) (take-append-le _ second third short ∙ take_min count second)))
+
+-- a text, and then a part of another one, are a part of both and what follows
+pub Grew-part : (before mid after : Option (List ℕ)) (first second third : List ℕ)
+    → Grew before mid first → IsAppendedPart mid after second → IsAppendedPart before after ((first ++ second) ++ third)
+Grew-part None mid after first second third one two = (0, rw (two.1, one) refl)
+Grew-part (Some sent) mid after first second third one two = (
+  length first + min two.0 (length second),
+  rw (two.1, one, front first second third two.0) (ap Some (append_assoc sent first (take two.0 second))),
+)
+
+-- a whole text is a part of what goes on after it
+pub Grew-prefix : (before after : Option (List ℕ)) (first second : List ℕ) → Grew before after first → IsAppendedPart before after (first ++ second)
+Grew-prefix None after first second one = (0, one)
+Grew-prefix (Some sent) after first second one = (length first, rw (one, take-append_seam first second) refl)
+
+-- a whole text is a part of itself
+pub Grew-whole : (before after : Option (List ℕ)) (text : List ℕ) → Grew before after text → IsAppendedPart before after text
+Grew-whole before after text one = (length text, rw take_whole one) where
+  take_whole : take (length text) text ≡ text
+  take_whole = take-length text

@@ -1,0 +1,36 @@
+-- What a run reports.
+use Rattle.std.specs.Prelude.{ℕ, zero, suc, ◌+◌, List, [], ◌∷◌, ◌++◌, codes, length, map, take}
+use Rattle.std.specs.Fmt.{decimal}
+use Rattle.psd_base.specs.Event.{Seen}
+use Rattle.psd_base.specs.declared.port.TheConstants.{MAX_PORTS}
+use Rattle.psd_base.specs.declared.summary.Summary.{Summary}
+use Rattle.kvm_program.specs.Transcript.{transcript_of}
+
+-- so many numbers from one on
+abbrev pub numbers_from : ℕ → ℕ → List ℕ
+numbers_from start zero = []
+numbers_from start (suc count) = start ∷ numbers_from (start + 1) count
+
+-- the bytes of each port's transcript
+unfoldable pub transcript_sizes : List Seen → List ℕ
+transcript_sizes events = map (λ port. length (transcript_of port events)) (numbers_from 1 MAX_PORTS)
+
+-- The summary of a run over these events. No device is attached and no port is selected yet.
+abbrev pub summary_of : ℕ → List Seen → Summary
+summary_of ports events = record { events = length events; ports = ports; refused = 0; left = 0; bytes = transcript_sizes events }
+
+unfoldable pub port_text : ℕ → ℕ → List ℕ
+port_text port count = codes "port " ++ decimal port ++ codes " " ++ decimal count ++ codes "\n"
+
+-- a line for each port from this one on
+abbrev pub counts_text : ℕ → List ℕ → List ℕ
+counts_text port [] = []
+counts_text port (count ∷ counts) = port_text port count ++ counts_text (port + 1) counts
+
+unfoldable pub report_text : Summary → List ℕ
+report_text summary =
+    (codes "events " ++ decimal summary.events ++ codes "\n")
+    ++ (codes "ports " ++ decimal summary.ports ++ codes "\n")
+    ++ (codes "refused " ++ decimal summary.refused ++ codes "\n")
+    ++ (codes "left " ++ decimal summary.left ++ codes "\n")
+    ++ counts_text 1 (take summary.ports summary.bytes)

@@ -1,0 +1,137 @@
+//! The replay: every event of the capture is served, and each line is written to its port.
+ghost use Rattle.std.specs.Prelude.{◌≡◌, ◌≢◌, ℕ, ◌+◌, ◌*◌, ◌^◌, ◌<◌, ◌≤◌, List, [], ◌∷◌, length, Option, option_map, IfSome, IfOk, IfErr, OnOk, OnErr};
+ghost use Rattle.psd_base.specs.Port.{IsPort};
+ghost use Rattle.capture_reader.specs.Reader.{rest};
+ghost use Rattle.switch_core.specs.StandsFor.{StandsFor, port_total, line_at};
+ghost use Rattle.kvm_program.specs.Outlets.{OnlyWritesPorts, Wrote, IsPortFault};
+ghost use Rattle.kvm_program.specs.Tally.{bytes_at};
+ghost use Rattle.kvm_program.specs.Transcript.{text_at};
+
+use crate::outlets::write_line;
+use crate::tally::Tally;
+use capture_reader::Reader;
+use port_transcript::{PORT_LINE_SIZE, Text};
+use psd_base::desk::Desk;
+use psd_base::event::{EVENTS_MAX, Event};
+use psd_base::outlet::{Input, Outlet};
+use psd_base::stop::Stop;
+use psd_base::summary::Summary;
+use switch_core::{Switch, Turn};
+
+/// What serves the events: the switch, and room for what one event gives.
+#[derive(Drop)]
+pub struct Server {
+    pub switch: Switch,
+    pub tally: Tally,
+    turn: Turn,
+    text: Text,
+}
+
+impl Server {
+    ghost use Rattle.psd_base.specs.Event.{Seen, seen, happening_of};
+    ghost use Rattle.std.specs.Prelude.{Some, None, Ok, true, false};
+    ghost use Rattle.capture_reader.specs.Schedule.{Schedule, over};
+    ghost use Rattle.switch_core.specs.StandsFor.{NamesPortUpTo};
+    ghost use Rattle.kvm_program.specs.Progress.{Progress, Finished, IsReady, WroteAtStop, ServingStops, OnlyServes};
+    ghost use Rattle.kvm_program.specs.Report.{summary_of};
+    ghost use Rattle.kvm_program.specs.Transcript.{transcript_of};
+
+    /// What serves with this switch, before any event.
+    pub fn new(switch: Switch) -> Server
+        ensures switch { result.switch ≡ switch }
+        ensures empty { (port : ℕ) → IsPort port → bytes_at result.tally port ≡ 0 }
+    {
+        Server {
+            switch,
+            tally: Tally::new(),
+            turn: Turn::new(),
+            text: Text::new(),
+        }
+    }
+
+    /// The summary of a run over all events of a capture with so many ports.
+    pub fn summary(&self, ports: u8) -> Summary
+        ensures ports { result.ports ≡ ports }
+        ensures counts { (events : List Seen) → self.now.switch.served ≡ length events
+            → ((port : ℕ) → IsPort port → bytes_at self.now.tally port ≡ length (transcript_of port events))
+            → result ≡ summary_of ports events }
+    {
+        Summary {
+            events: self.switch.served(),
+            ports,
+            refused: 0,
+            left: 0,
+            bytes: self.tally.bytes(),
+        }
+    }
+
+    /// Serves one event, and writes its line.
+    pub fn serve<D: Desk>(&mut self, desk: &mut D, event: &Event) -> Result<(), Stop>
+        requires known { NamesPortUpTo (port_total self.old.switch) (happening_of event.now.what) }
+        requires few { self.old.switch.served < EVENTS_MAX }
+        requires room { (port : ℕ) → IsPort port → bytes_at self.old.tally port + PORT_LINE_SIZE < 2 ^ 64 }
+        ensures stands { (past : List Seen) → StandsFor self.old.switch past → StandsFor self.new.switch (seen event.now ∷ past) }
+        ensures wrote { (past : List Seen) → StandsFor self.old.switch past → (port : ℕ) →
+            Wrote result (D.sent desk.old (Outlet.Port port)) (D.sent desk.new (Outlet.Port port)) (text_at port (line_at (seen event.now) past)) }
+        ensures short { (past : List Seen) → StandsFor self.old.switch past → (port : ℕ) → length (text_at port (line_at (seen event.now) past)) ≤ PORT_LINE_SIZE }
+        ensures counted { (past : List Seen) → StandsFor self.old.switch past → OnOk result ((port : ℕ) → IsPort port →
+            bytes_at self.new.tally port ≡ bytes_at self.old.tally port + length (text_at port (line_at (seen event.now) past))) }
+        ensures bounded { OnOk result ((port : ℕ) → IsPort port → bytes_at self.new.tally port ≤ bytes_at self.old.tally port + PORT_LINE_SIZE) }
+        ensures served { self.new.switch.served ≡ self.old.switch.served + 1 }
+        ensures ports { port_total self.new.switch ≡ port_total self.old.switch }
+        ensures stop { IfErr result (IsPortFault (D.write_faults desk.old) (D.write_faults desk.new)) }
+        ensures others { OnlyWritesPorts (D.left desk.old) (D.left desk.new) (D.sent desk.old) (D.sent desk.new)
+            (D.read_faults desk.old) (D.read_faults desk.new) (D.write_faults desk.old) (D.write_faults desk.new) }
+    {
+        self.switch.step(event, &mut self.turn);
+        write_line(desk, &self.turn.line, &mut self.text, &mut self.tally)
+    }
+
+    /// Serves the next event of the reader, if there is one.
+    fn serve_next<D: Desk>(&mut self, reader: &mut Reader, desk: &mut D) -> Result<bool, Stop>
+        requires { IsReady reader.old self.old.switch self.old.tally }
+        ensures ready { result ≡ Ok true → IsReady reader.new self.new.switch self.new.tally }
+        ensures counted { result ≡ Ok true → (reader.new.served ≡ reader.old.served + 1) × (reader.new.served ≤ reader.old.limit) }
+        ensures same { OnOk result ((reader.new.limit ≡ reader.old.limit) × (reader.new.ports ≡ reader.old.ports)) }
+        ensures going { result ≡ Ok true → (coming : Option Schedule) (sent : Outlet → Option (List ℕ)) →
+            Progress coming (rest reader.old (D.left desk.old Input.Capture)) sent (D.sent desk.old) self.old.switch self.old.tally →
+            Progress coming (rest reader.new (D.left desk.new Input.Capture)) sent (D.sent desk.new) self.new.switch self.new.tally }
+        ensures ended { result ≡ Ok false → IfSome (rest reader.old (D.left desk.old Input.Capture)) (λ left. left ≡ over None) }
+        ensures idle { result ≡ Ok false → ((outlet : Outlet) → D.sent desk.new outlet ≡ D.sent desk.old outlet)
+            × (self.new.switch ≡ self.old.switch) × (self.new.tally ≡ self.old.tally) }
+        ensures written { IfErr result (λ stop. (schedule : Schedule) (sent : Outlet → Option (List ℕ)) (port : ℕ) →
+            Progress (Some schedule) (rest reader.old (D.left desk.old Input.Capture)) sent (D.sent desk.old) self.old.switch self.old.tally →
+            WroteAtStop stop (transcript_of port schedule.events) (sent (Outlet.Port port)) (D.sent desk.new (Outlet.Port port))) }
+        ensures stop { IfErr result (λ stop. (coming : Option Schedule) (sent : Outlet → Option (List ℕ)) →
+            Progress coming (rest reader.old (D.left desk.old Input.Capture)) sent (D.sent desk.old) self.old.switch self.old.tally →
+            ServingStops stop coming (D.read_faults desk.old) (D.read_faults desk.new) (D.write_faults desk.old) (D.write_faults desk.new)) }
+        ensures others { OnlyServes (D.left desk.old) (D.left desk.new) (D.sent desk.old) (D.sent desk.new)
+            (D.read_faults desk.old) (D.read_faults desk.new) (D.write_faults desk.old) (D.write_faults desk.new) }
+    {
+        if !reader.advance(desk)? {
+            return Ok(false);
+        }
+        let event = reader.event();
+        self.serve(desk, &event)?;
+        Ok(true)
+    }
+
+    /// Serves every event of the reader.
+    pub fn serve_all<D: Desk>(&mut self, reader: &mut Reader, desk: &mut D) -> Result<(), Stop>
+        requires { IsReady reader.old self.old.switch self.old.tally }
+        ensures finished { OnOk result ((schedule : Schedule) (sent : Outlet → Option (List ℕ)) →
+            Progress (Some schedule) (rest reader.old (D.left desk.old Input.Capture)) sent (D.sent desk.old) self.old.switch self.old.tally →
+            Finished schedule sent (D.sent desk.new) self.new.switch self.new.tally) }
+        ensures written { IfErr result (λ stop. (schedule : Schedule) (sent : Outlet → Option (List ℕ)) (port : ℕ) →
+            Progress (Some schedule) (rest reader.old (D.left desk.old Input.Capture)) sent (D.sent desk.old) self.old.switch self.old.tally →
+            WroteAtStop stop (transcript_of port schedule.events) (sent (Outlet.Port port)) (D.sent desk.new (Outlet.Port port))) }
+        ensures stop { IfErr result (λ stop. (coming : Option Schedule) (sent : Outlet → Option (List ℕ)) →
+            Progress coming (rest reader.old (D.left desk.old Input.Capture)) sent (D.sent desk.old) self.old.switch self.old.tally →
+            ServingStops stop coming (D.read_faults desk.old) (D.read_faults desk.new) (D.write_faults desk.old) (D.write_faults desk.new)) }
+        ensures others { OnlyServes (D.left desk.old) (D.left desk.new) (D.sent desk.old) (D.sent desk.new)
+            (D.read_faults desk.old) (D.read_faults desk.new) (D.write_faults desk.old) (D.write_faults desk.new) }
+    {
+        'events: while self.serve_next(reader, desk)? {}
+        Ok(())
+    }
+}

@@ -1,0 +1,118 @@
+//! Runs of the top call at a desk in memory, with expected bytes written by hand.
+use crate::run::kvm;
+use psd_base::memory_desk::MemoryDesk;
+use psd_base::outlet::{Input, Outlet};
+use psd_base::port::PortId;
+use psd_base::stop::{CaptureFault, Stop};
+use psd_base::summary::Summary;
+use psd_base::words::Words;
+use std::alloc::Global;
+use std::test::Fail;
+
+/// Room of each outlet, in bytes.
+const ROOM: u32 = 4096;
+
+/// Two ports; at tick 1 port 1 asks for its device descriptor and takes it.
+#[rattlefmt::skip]
+const DEVICE_DESCRIPTOR: [u8; 47] = [
+    0x4b, 0x56, 0x43, 0x31, 0x02, 0, 0, 0,
+    1, 0, 0, 0, 0x11, 0x41, 9, 0, 0, 0x80, 6, 0, 1, 0, 0, 0x40, 0,
+    1, 0, 0, 0, 0x13, 0x41, 3, 0, 0, 0, 1,
+    1, 0, 0, 0, 0x12, 0x41, 3, 0, 0, 0, 1,
+];
+
+const TRANSCRIPT: &[u8] =
+    b"1 KM SETUP 0 8006000100004000 -> ACK\n1 KM IN 0 0 1 -> DATA 1 1201000200000040feff0100000100000001\n1 KM OUT 0 0 1 - -> ACK\n";
+
+const REPORT: &[u8] = b"events 3\nports 2\nrefused 0\nleft 0\nport 1 122\nport 2 0\n";
+
+fn desk(alloc: Global, capture: &[u8]) -> Result<MemoryDesk, Fail> {
+    Ok(MemoryDesk::new(alloc, &[], capture, &[], ROOM)?)
+}
+
+fn replay(alloc: Global, desk: &mut MemoryDesk) -> Result<Summary, Stop> {
+    let mut words = Words::new();
+    words.push("replay");
+    kvm(alloc, &words, desk)
+}
+
+fn port(number: u8) -> Result<Outlet, Fail> {
+    Ok(Outlet::Port(PortId::new(number).ok_or("no port")?))
+}
+
+#[test]
+fn one_descriptor_is_read(rt: HostRuntime) -> Result<(), Fail> {
+    for piece in [1, 7, 4096] {
+        let mut desk = desk(rt.alloc(), &DEVICE_DESCRIPTOR)?;
+        desk.limit_reads(piece);
+        assert_eq!(rt;
+            replay(rt.alloc(), &mut desk).is_ok(),
+            true,
+            "in pieces of {piece}"
+        );
+        assert_eq!(rt; desk.sent(port(1)?), TRANSCRIPT);
+        assert_eq!(rt; desk.sent(port(2)?), b"".as_slice());
+        assert_eq!(rt; desk.sent(Outlet::Report), REPORT);
+        assert_eq!(rt; desk.sent(Outlet::Faults), b"".as_slice());
+    }
+    Ok(())
+}
+
+#[test]
+fn a_failed_read_stops(rt: HostRuntime) -> Result<(), Fail> {
+    let mut desk = desk(rt.alloc(), &DEVICE_DESCRIPTOR)?;
+    desk.fail_read(1)?;
+    assert_eq!(rt;
+        replay(rt.alloc(), &mut desk),
+        Err(Stop::ReadFault(Input::Capture))
+    );
+    Ok(())
+}
+
+/// The first two writes make the console and the log, the third makes port 1.
+#[test]
+fn a_failed_write_stops(rt: HostRuntime) -> Result<(), Fail> {
+    let mut desk = desk(rt.alloc(), &DEVICE_DESCRIPTOR)?;
+    desk.fail_write(3, 0)?;
+    assert_eq!(rt;
+        replay(rt.alloc(), &mut desk),
+        Err(Stop::WriteFault(port(1)?))
+    );
+    Ok(())
+}
+
+/// The fifth write is that of port 1's first line, of which four bytes are kept.
+#[test]
+fn a_line_is_written_in_part(rt: HostRuntime) -> Result<(), Fail> {
+    let mut desk = desk(rt.alloc(), &DEVICE_DESCRIPTOR)?;
+    desk.fail_write(5, 4)?;
+    assert_eq!(rt;
+        replay(rt.alloc(), &mut desk),
+        Err(Stop::WriteFault(port(1)?))
+    );
+    assert_eq!(rt; desk.sent(port(1)?), b"1 KM".as_slice());
+    assert_eq!(rt; desk.sent(Outlet::Report), b"".as_slice());
+    Ok(())
+}
+
+#[test]
+fn a_cut_record_stops_behind_the_whole_ones(rt: HostRuntime) -> Result<(), Fail> {
+    let mut desk = desk(rt.alloc(), &DEVICE_DESCRIPTOR[..46])?;
+    let stop = Stop::Capture {
+        offset: 36,
+        why: CaptureFault::Truncated,
+    };
+    assert_eq!(rt; replay(rt.alloc(), &mut desk), Err(stop));
+    assert_eq!(rt; desk.sent(port(1)?), &TRANSCRIPT[..98]);
+    Ok(())
+}
+
+#[test]
+fn other_words_are_no_command(rt: HostRuntime) -> Result<(), Fail> {
+    let mut desk = desk(rt.alloc(), &DEVICE_DESCRIPTOR)?;
+    let mut words = Words::new();
+    words.push("replay");
+    words.push("now");
+    assert_eq!(rt; kvm(rt.alloc(), &words, &mut desk), Err(Stop::Usage));
+    Ok(())
+}

@@ -1,0 +1,9 @@
+pub mod ConsoleLineLaws
+pub mod Hexadecimal
+pub mod LogLineLaws
+pub mod PortLineLaws
+pub mod ReadingLaws
+pub mod ReadRanges
+pub mod StopLineLaws
+pub mod WordEnds
+mod Examples

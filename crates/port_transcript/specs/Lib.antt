@@ -1,0 +1,7 @@
+pub mod ConsoleLine
+pub mod LogLine
+pub mod Plug
+pub mod PortLine
+pub mod Reading
+pub mod StopLine
+pub mod Text

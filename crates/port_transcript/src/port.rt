@@ -1,0 +1,132 @@
+//! Lines of a port's transcript: `TICK SIDE ACT -> ANSWER`.
+//!
+//! | part | its texts |
+//! |---|---|
+//! | SIDE | `KM`, `UA` |
+//! | ACT | `RESET`; `SETUP ADDRESS BYTES`; `OUT ADDRESS ENDPOINT TOGGLE BYTES`; `IN ADDRESS ENDPOINT ACKED` |
+//! | ANSWER | `ACK`; `NAK`; `STALL`; `SILENT`; `DATA TOGGLE BYTES` |
+ghost use Rattle.std.specs.Prelude.{◌≡◌, ◌+◌, ◌≤◌, length, ◌++◌};
+ghost use Rattle.arrayvec.specs.ArrayVec.{array_vec_len};
+ghost use Rattle.port_transcript.specs.PortLine.{act_text, answer_text, line_text, side_text};
+
+use crate::text::{
+    TEXT_SIZE, Text, append, append_bytes, append_digits, append_flag, append_number,
+};
+use psd_base::{Act, Answer, Line, Side};
+
+#[cfg(test)]
+mod tests;
+
+/// The most bytes that a line of a port has, its line feed included.
+pub const PORT_LINE_SIZE: usize = 296;
+
+/// The bytes of a side's name.
+const SIDE_SIZE: usize = 2;
+
+/// The most bytes of an act, those of an OUT of `PACKET_SIZE` bytes.
+const ACT_SIZE: usize = 142;
+
+/// The most bytes of an answer, those of `PACKET_SIZE` bytes of data.
+const ANSWER_SIZE: usize = 135;
+
+/// Appends the line. There is room for the longest, of `PORT_LINE_SIZE` bytes.
+#[tactic(auto, unfolding(crate::specs::PortLine::line_text))]
+pub fn write_port_line(line: &Line, text: &mut Text)
+    requires { array_vec_len text.old + PORT_LINE_SIZE ≤ TEXT_SIZE }
+    ensures items { text.new.items ≡ text.old.items ++ line_text line.now }
+    ensures len { array_vec_len text.new ≤ array_vec_len text.old + PORT_LINE_SIZE }
+{
+    append_number(text, line.tick);
+    append(text, b" ");
+    append(text, side_name(line.side));
+    append(text, b" ");
+    append_act(text, &line.act);
+    append(text, b" -> ");
+    append_answer(text, &line.answer);
+    append(text, b"\n");
+}
+
+/// The line in a fresh text.
+pub fn port_line(line: &Line) -> Text
+    ensures items { result.items ≡ line_text line.now }
+    ensures len { array_vec_len result ≤ PORT_LINE_SIZE }
+{
+    let mut text = Text::new();
+    write_port_line(line, &mut text);
+    text
+}
+
+#[tactic(auto, unfolding(crate::specs::PortLine::side_text))]
+fn side_name(side: Side) -> &'static [u8]
+    ensures name { result.now ≡ side_text side }
+    ensures len { length result.now ≡ SIDE_SIZE }
+{
+    match side {
+        Side::Km => b"KM",
+        Side::Ua => b"UA",
+    }
+}
+
+#[tactic(auto, unfolding(crate::specs::PortLine::act_text))]
+fn append_act(text: &mut Text, act: &Act)
+    requires { array_vec_len text.old + ACT_SIZE ≤ TEXT_SIZE }
+    ensures items { text.new.items ≡ text.old.items ++ act_text act.now }
+    ensures len { array_vec_len text.new ≤ array_vec_len text.old + ACT_SIZE }
+{
+    match act {
+        Act::Reset => append(text, b"RESET"),
+        Act::Setup { address, setup } => {
+            append(text, b"SETUP ");
+            append_number(text, *address);
+            append(text, b" ");
+            append_digits(text, &setup.bytes());
+        }
+        Act::Out {
+            address,
+            endpoint,
+            toggle,
+            bytes,
+        } => {
+            append(text, b"OUT ");
+            append_number(text, *address);
+            append(text, b" ");
+            append_number(text, *endpoint);
+            append(text, b" ");
+            append_flag(text, *toggle);
+            append(text, b" ");
+            append_bytes(text, bytes);
+        }
+        Act::In {
+            address,
+            endpoint,
+            acked,
+        } => {
+            append(text, b"IN ");
+            append_number(text, *address);
+            append(text, b" ");
+            append_number(text, *endpoint);
+            append(text, b" ");
+            append_flag(text, *acked);
+        }
+    }
+}
+
+#[tactic(auto, unfolding(crate::specs::PortLine::answer_text))]
+fn append_answer(text: &mut Text, answer: &Answer)
+    requires { array_vec_len text.old + ANSWER_SIZE ≤ TEXT_SIZE }
+    ensures items { text.new.items ≡ text.old.items ++ answer_text answer.now }
+    ensures len { array_vec_len text.new ≤ array_vec_len text.old + ANSWER_SIZE }
+{
+    match answer {
+        Answer::Ack => append(text, b"ACK"),
+        Answer::Nak => append(text, b"NAK"),
+        Answer::Stall => append(text, b"STALL"),
+        Answer::Silent => append(text, b"SILENT"),
+        Answer::Data { toggle, bytes } => {
+            append(text, b"DATA ");
+            append_flag(text, *toggle);
+            append(text, b" ");
+            append_bytes(text, bytes);
+        }
+    }
+}

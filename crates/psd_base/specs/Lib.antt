@@ -1,0 +1,13 @@
+pub mod Calls
+pub mod Desk
+pub mod Event
+pub mod FaultCounts
+pub mod History
+pub mod MemoryDesk
+pub mod Places
+pub mod Port
+pub mod Setup
+pub mod Sink
+pub mod Stop
+pub mod Store
+pub mod Words

@@ -1,0 +1,120 @@
+//! The desk of the current folder, with standard output and standard error.
+//!
+//! No contract can say what a file gives or takes, so this desk tells nothing of bytes: here the proofs end.
+ghost use Rattle.std.specs.Prelude.{◌≡◌, IfErr};
+ghost use Rattle.psd_base.specs.FaultCounts.{no_faults};
+
+use crate::desk::{Desk, DeskFailed};
+use crate::fault_counts::FaultCounts;
+use crate::outlet::{Input, Outlet};
+use crate::places::{INPUTS, OUTLETS, input_place, outlet_place};
+use crate::port::{MAX_PORTS, PortId};
+use crate::sink::Sink;
+use crate::source::Source;
+use std::array;
+use std::rt::Files;
+
+/// The desk of the current folder. It reads `rules.toml`, `capture.kvc` and `buttons.txt`, and writes `port1.txt` and
+/// so on for each port, `console.txt` and `rules.log`. Report is standard output, and Faults is standard error, which
+/// takes text alone.
+///
+/// Each file is opened at its first use. A missing `rules.toml` or `buttons.txt` reads as empty. The first write to a
+/// file makes it anew, also a write of no bytes. Written bytes wait in a buffer of their outlet until there are too
+/// many, or until `close`: without it they are lost. An outlet that failed once fails from then on.
+#[derive(Drop)]
+pub struct FileDesk<R: Files> {
+    rt: R,
+    sources: [Source<R::File>; INPUTS],
+    sinks: [Sink<R::File>; OUTLETS],
+    faults: FaultCounts,
+}
+
+impl<R: Files + Print + Eprint + AllocGlobal + Drop> FileDesk<R> {
+    ghost use Rattle.psd_base.specs.declared.outlet.Input.{Input};
+    ghost use Rattle.psd_base.specs.declared.outlet.Outlet.{Outlet};
+
+    /// The desk of the current folder, with the runtime that `main` was given. Nothing is opened yet.
+    pub fn new(rt: R) -> FileDesk<R>
+        ensures reads { (input : Input) → ⟦<FileDesk<R> as Desk>⟧.read_faults result input ≡ 0 }
+        ensures writes { (outlet : Outlet) → ⟦<FileDesk<R> as Desk>⟧.write_faults result outlet ≡ 0 }
+    {
+        FileDesk {
+            rt,
+            sources: [Source::Unused, Source::Unused, Source::Unused],
+            sinks: array::from_fn(|_| Sink::Unused),
+            faults: FaultCounts::new(),
+        }
+    }
+
+    /// Writes out what waits for the console, the log, the ports, the report and the faults, in this order, and stops
+    /// at the first outlet where that fails. An outlet that failed earlier is passed over, so a second `close` goes on
+    /// behind it.
+    pub fn close(&mut self) -> Result<(), Outlet> {
+        self.write_out(Outlet::Console)?;
+        self.write_out(Outlet::Log)?;
+        for number in 1..=MAX_PORTS {
+            if let Some(port) = PortId::new(number) {
+                self.write_out(Outlet::Port(port))?;
+            }
+        }
+        self.write_out(Outlet::Report)?;
+        self.write_out(Outlet::Faults)
+    }
+
+    fn write_out(&mut self, outlet: Outlet) -> Result<(), Outlet>
+        ensures { IfErr result (λ failed. failed ≡ outlet) }
+    {
+        match self.sinks[outlet_place(&outlet)].write_out(&self.rt) {
+            Ok(()) => Ok(()),
+            Err(_) => Err(outlet),
+        }
+    }
+}
+
+impl<R: Files + Print + Eprint + AllocGlobal + Drop> Desk for FileDesk<R> {
+    ghost use Rattle.std.specs.Prelude.{None};
+    ghost use Rattle.psd_base.specs.FaultCounts.{reads_failed, writes_failed};
+
+    ghost left = { λ _ _. None };
+
+    ghost sent = { λ _ _. None };
+
+    ghost read_faults = { λ desk input. reads_failed desk.faults input };
+
+    ghost write_faults = { λ desk outlet. writes_failed desk.faults outlet };
+
+    fn read(&mut self, from: Input, into: &mut [u8]) -> Result<usize, DeskFailed> {
+        match self.sources[input_place(&from)].read(&self.rt, &from, into) {
+            Ok(count) => Ok(count),
+            Err(_) => {
+                self.faults.count_read(&from);
+                Err(DeskFailed)
+            }
+        }
+    }
+
+    fn write(&mut self, to: Outlet, bytes: &[u8]) -> Result<(), DeskFailed> {
+        match self.sinks[outlet_place(&to)].write(&self.rt, &to, bytes) {
+            Ok(()) => Ok(()),
+            Err(_) => {
+                self.faults.count_write(&to);
+                Err(DeskFailed)
+            }
+        }
+    }
+}
+
+#[cfg(test)]
+mod tests {
+    use super::*;
+
+    #[test]
+    fn only_the_capture_must_be_there(rt: HostRuntime) {
+        let mut desk = FileDesk::new(&rt);
+        let mut into = [0; 4];
+        assert_eq!(rt; desk.read(Input::Rules, &mut into), Ok(0));
+        assert_eq!(rt; desk.read(Input::Capture, &mut into), Err(DeskFailed));
+        assert_eq!(rt; desk.read(Input::Script, &mut into), Ok(0));
+        assert_eq!(rt; desk.close(), Ok(()));
+    }
+}

@@ -1,0 +1,39 @@
+//! The words that all crates of the switch share: ports, USB acts and answers, events, transcript lines, stops and the desk.
+#![tactic(auto)]
+
+pub mod act;
+mod calls;
+pub mod console;
+pub mod desk;
+pub mod event;
+mod fault_counts;
+pub mod file_desk;
+pub mod line;
+pub mod memory_desk;
+pub mod outlet;
+pub mod packet;
+mod places;
+pub mod port;
+pub mod setup;
+mod sink;
+mod source;
+pub mod stop;
+mod store;
+pub mod summary;
+mod tape;
+pub mod words;
+
+pub use act::{Act, Answer, Side};
+pub use console::{Job, JobKind, Note, Order, Panel, Plug, Reason, RuleName};
+pub use desk::{Desk, DeskFailed};
+pub use event::{EVENTS_MAX, Event, Tick, What};
+pub use file_desk::FileDesk;
+pub use line::Line;
+pub use memory_desk::MemoryDesk;
+pub use outlet::{Input, Outlet};
+pub use packet::{BLOCK_SIZE, Block, Bytes, PACKET_SIZE, Packet};
+pub use port::{MAX_PORTS, PortId};
+pub use setup::Setup;
+pub use stop::{CaptureFault, RuleList, RulesFault, ScriptFault, Stop};
+pub use summary::Summary;
+pub use words::Words;

@@ -1,0 +1,5 @@
+pub mod KmDescriptors
+pub mod OnePort
+pub mod PortStands
+pub mod StandsFor
+pub mod View

@@ -1,0 +1,81 @@
+-- A switch with one port: what it answers to the port's own acts, found from the port's view alone. A view is newest first, a transcript is oldest first.
+use Rattle.std.specs.Prelude.{ℕ, Bool, true, false, ◌&&◌, ◌||◌, ◌==◌, nat_lt, nat_le, List, [], ◌∷◌, ◌++◌, if◌then◌else◌}
+use Rattle.psd_base.specs.declared.setup.Setup.{Setup}
+use Rattle.psd_base.specs.declared.act.Act.{Act}
+use Rattle.psd_base.specs.declared.act.Act.TheVariants as act
+use Rattle.psd_base.specs.declared.act.Side.{Side}
+use Rattle.psd_base.specs.declared.act.Side.TheVariants.{Km, Ua}
+use Rattle.psd_base.specs.declared.act.Answer.{Answer}
+use Rattle.psd_base.specs.declared.act.Answer.TheVariants as answer
+use Rattle.psd_base.specs.declared.line.Line.{Line}
+use Rattle.control_pipe.specs.Control.{ControlAct, moment_of, control_answer, address_after, is_configured_after, is_halted_after}
+use Rattle.switch_core.specs.KmDescriptors.{km_descriptor}
+use Rattle.switch_core.specs.View.{Concern, Own, Wakes, Item}
+use Rattle.std.specs.Prelude.{Option, None}
+
+-- whether the port answers: it woke
+abbrev pub is_live : List Item → Bool
+is_live [] = false
+is_live (item ∷ past) = with_concern item.concern (is_live past) where
+  with_concern : Concern → Bool → Bool
+  with_concern (Own side act) live = live
+  with_concern Wakes live = true
+
+-- whether an act is at the control endpoint: a bus reset, or a transaction at endpoint 0
+abbrev pub is_control : Act → Bool
+is_control act.Reset = true
+is_control (act.Setup address setup) = true
+is_control (act.Out address endpoint toggle bytes) = endpoint == 0
+is_control (act.In address endpoint acked) = endpoint == 0
+
+-- an act at the control endpoint of the keyboard and mouse, with the descriptor for its setup
+abbrev pub km_act : Act → ControlAct
+km_act act = moment_of km_descriptor (λ _. None) (λ _. false) act
+
+-- an act at the keyboard and mouse goes on with the acts at the control endpoint, if it is one of them
+abbrev pub with_km_act : Act → List ControlAct → List ControlAct
+with_km_act act acts = if is_control act then km_act act ∷ acts else acts
+
+-- the acts at the control endpoint of the keyboard and mouse since the port woke
+abbrev pub control_acts : List Item → List ControlAct
+control_acts [] = []
+control_acts (item ∷ past) = with_concern item.concern (control_acts past) where
+  with_concern : Concern → List ControlAct → List ControlAct
+  with_concern (Own Km act) acts = with_km_act act acts
+  with_concern (Own Ua act) acts = acts
+  with_concern Wakes acts = []
+
+-- whether the emulated keyboard and mouse have this endpoint: 1 and 2 of a configured device
+abbrev pub has_interrupt_endpoint : ℕ → List ControlAct → Bool
+has_interrupt_endpoint endpoint acts = (endpoint == 1 || endpoint == 2) && is_configured_after acts
+
+-- a transaction at another endpoint than 0. Nothing is due, so an endpoint that is there and not halted answers NAK.
+abbrev pub interrupt_answer : List ControlAct → Act → Answer
+interrupt_answer acts (act.In address endpoint acked) =
+    if address == address_after acts && has_interrupt_endpoint endpoint acts
+    then (if is_halted_after endpoint acts then answer.Stall else answer.Nak)
+    else answer.Silent
+interrupt_answer acts _ = answer.Silent
+
+abbrev pub km_answer : List ControlAct → Act → Answer
+km_answer acts act = if is_control act then control_answer acts act else interrupt_answer acts act
+
+-- what an act at a connector is answered after a view. There is no token, so its connector is silent.
+abbrev pub live_answer : List Item → Side → Act → Answer
+live_answer past Km act = km_answer (control_acts past) act
+live_answer past Ua act = answer.Silent
+
+abbrev pub answer_to : List Item → Side → Act → Answer
+answer_to past side act = if is_live past then live_answer past side act else answer.Silent
+
+-- the line of an act at a tick
+abbrev pub line_of : List Item → ℕ → Side → Act → Line
+line_of past tick side act = record { tick = tick; side = side; act = act; answer = answer_to past side act }
+
+-- the transcript of a view
+abbrev pub toy : List Item → List Line
+toy [] = []
+toy (item ∷ past) = with_concern item.tick item.concern past (toy past) where
+  with_concern : ℕ → Concern → List Item → List Line → List Line
+  with_concern tick (Own side act) past lines = lines ++ line_of past tick side act ∷ []
+  with_concern tick Wakes past lines = lines
