@@ -1,5 +1,5 @@
 -- What looking one record ahead finds, whatever bytes come behind those that are held.
-use Rattle.std.proofs.Common.{◌≡◌, ℕ, ◌+◌, ◌-◌, ◌<◌, ◌≤◌, Bool, true, false, List, [], ◌∷◌, ◌++◌, length, drop, slice_range, Option, Some, None, option_map, IfSome, IsSomeAnd, Result, Ok, Err, refl, sym, ap, ◌∙◌, subst, arith, append-nil, length-append, take-append-drop}
+use Rattle.std.proofs.Common.{◌≡◌, ℕ, ◌+◌, ◌<◌, ◌≤◌, Bool, true, false, List, [], ◌∷◌, ◌++◌, length, drop, slice_range, Option, Some, None, option_map, IfSome, IsSomeAnd, Ok, Err, refl, sym, ap, ◌∙◌, subst, arith, append-nil, length-append, take-append-drop}
 use Rattle.std.proofs.lemmas.List.{drop-append-le}
 use Rattle.psd_base.specs.declared.stop.CaptureFault.{CaptureFault}
 use Rattle.psd_base.specs.declared.stop.CaptureFault.TheVariants.{Truncated}
@@ -9,7 +9,6 @@ use Rattle.psd_base.specs.declared.event.Event.{Event}
 use Rattle.psd_base.specs.Event.{Happening, Seen, seen}
 use Rattle.capture_reader.specs.declared.form.Form.{Form}
 use Rattle.capture_reader.specs.declared.form.Head.{Head}
-use Rattle.capture_reader.specs.declared.source.CaptureSource.{CaptureSource}
 use Rattle.capture_reader.specs.Capture.{Recording, first, none_until, head_of, size_of, payload_of, announced, happening_in, record_at, records}
 use Rattle.capture_reader.specs.Source.{later, after_ahead, Ends, IsPartial, Announces}
 use Rattle.capture_reader.specs.Window.{Held, coming, still, Begins}
@@ -43,7 +42,7 @@ pub ends_head : (ports last offset : ℕ) (held : Held) (why : CaptureFault) →
     → Ends ports last offset held (Some (stops.Capture offset why))
 ends_head ports last offset held why whole faulty =
     ends_by ports last offset held why (omega arith) (λ more.
-        record_at-head ports last (held.bytes ++ more) why (omega (arith, length-append held.bytes more)) (ap (announced ports last) (head_of-append held.bytes more whole) ∙ faulty))
+    record_at-head ports last (held.bytes ++ more) why (omega (arith, length-append held.bytes more)) (ap (announced ports last) (head_of-append held.bytes more whole) ∙ faulty))
 
 pub ends_cut : (ports last offset : ℕ) (held : Held) (head : Head) (form : Form) → Announces ports last held.bytes head form → held.ended ≡ true
     → length held.bytes < size_of head → Ends ports last offset held (Some (stops.Capture offset Truncated))
@@ -79,8 +78,8 @@ pub ends_field : (ports last offset : ℕ) (held : Held) (head : Head) (form : F
     → Ends ports last offset held (Some (stops.Capture offset why))
 ends_field ports last offset held head form why sound enough faulty =
     ends_by ports last offset held why (omega (arith, sound.whole)) (λ more.
-        let l = longer_sound ports last held.bytes more head form sound enough in
-        record_at-field ports last (held.bytes ++ more) form why l.whole l.form_is l.enough (ap (happening_in form) l.payload ∙ faulty))
+    let l = longer_sound ports last held.bytes more head form sound enough in
+    record_at-field ports last (held.bytes ++ more) form why l.whole l.form_is l.enough (ap (happening_in form) l.payload ∙ faulty))
 
 pub coming_past : (bytes : List ℕ) (ended : Bool) (left : List ℕ) (count : ℕ) → count ≤ length bytes
     → drop count (coming (record { bytes = bytes; ended = ended }) left) ≡ coming (record { bytes = drop count bytes; ended = ended }) left
@@ -91,7 +90,7 @@ coming_past bytes false left count within = drop-append-le count bytes left with
 pub moves_on : (ports last offset : ℕ) (held : Held) (head : Head) (form : Form) (happening : Happening) → Announces ports last held.bytes head form
     → size_of head ≤ length held.bytes → happening_in form (slice_range held.bytes 8 (size_of head)) ≡ Ok happening → (left : List ℕ)
     → records ports last offset 0 (coming held left)
-        ≡ first (record { tick = head.tick; happening = happening }) (records ports head.tick (offset + size_of head) 0 (coming (record held { bytes = drop (size_of head) held.bytes }) left))
+    ≡ first (record { tick = head.tick; happening = happening }) (records ports head.tick (offset + size_of head) 0 (coming (record held { bytes = drop (size_of head) held.bytes }) left))
 moves_on ports last offset held head form happening sound enough valid left =
     let behind = coming_is held.bytes held.ended left in
     let l = longer_sound ports last held.bytes behind.0 head form sound enough in
@@ -99,7 +98,7 @@ moves_on ports last offset held head form happening sound enough valid left =
     let event : Head → Seen = λ (h : Head). record { tick = h.tick; happening = happening } in
     let after : Head → Recording = λ (h : Head). first (event h) (records ports h.tick (offset + size_of h) 0 (drop (size_of h) whole)) in
     let rest : drop (size_of head) whole ≡ coming (record held { bytes = drop (size_of head) held.bytes }) left =
-        ap (drop (size_of head)) (sym behind.1) ∙ coming_past held.bytes held.ended left (size_of head) enough in
+    ap (drop (size_of head)) (sym behind.1) ∙ coming_past held.bytes held.ended left (size_of head) enough in
     ap (records ports last offset 0) behind.1
     ∙ records_valid ports last offset (event (head_of whole)) whole (omega (arith, l.whole)) (record_at-valid ports last whole form happening l.whole l.form_is l.enough (ap (happening_in form) l.payload ∙ valid))
     ∙ ap after l.head_is
@@ -130,14 +129,6 @@ pub later_still : (ports last offset : ℕ) (held held_after : Held) (left left_
     → later ports last offset held left ≡ later ports last offset held_after left_after
 unfolding later
 later_still ports last offset held held_after left left_after same = ap (λ bytes. option_map (records ports last offset 0) bytes) (sym same)
-
--- the same, where a look took bytes from the desk and no more
-pub later_same : (now new : CaptureSource) (ahead : Option Event) (left left_after : Option (List ℕ)) → still new.window left_after ≡ still now.window left
-    → new ≡ record { window = new.window; ports = now.ports; tick = now.tick; offset = now.offset; ahead = ahead }
-    → later now.ports now.tick now.offset now.window left ≡ later new.ports new.tick new.offset new.window left_after
-later_same now new ahead left left_after same only =
-    later_still now.ports now.tick now.offset now.window new.window left left_after same
-    ∙ ap (λ (source : CaptureSource). later source.ports source.tick source.offset new.window left_after) (sym only)
 
 pub later_moves : (ports last offset ports_after tick place : ℕ) (held held_after : Held) (event : Seen) (left : Option (List ℕ))
     → ((bytes : List ℕ) → records ports last offset 0 (coming held bytes) ≡ first event (records ports_after tick place 0 (coming held_after bytes)))

@@ -1,9 +1,7 @@
--- What reading does to the bytes that are still to come, and to a desk.
-use Rattle.std.proofs.Common.{◌≡◌, ◌≢◌, ℕ, ◌+◌, ◌-◌, ◌≤◌, Bool, true, false, nat_eq, List, [], ◌++◌, length, take, Option, Some, None, option_map, IfSome, slice_range, refl, sym, ap, ◌∙◌, subst, arith, append_assoc, append-nil}
+-- What reading does to the bytes that are still to come.
+use Rattle.std.proofs.Common.{◌≡◌, ℕ, ◌+◌, ◌-◌, Bool, true, false, nat_eq, List, [], ◌++◌, take, Option, Some, None, option_map, IfSome, slice_range, refl, sym, ap, ◌∙◌, subst, arith, append_assoc, append-nil}
 use Rattle.std.proofs.lemmas.Bool.Decides.{nat_tests}
-use Rattle.psd_base.specs.declared.outlet.Input.{Input}
-use Rattle.psd_base.specs.declared.outlet.Outlet.{Outlet}
-use Rattle.capture_reader.specs.Window.{Held, coming, still, Begins, OnlyReads}
+use Rattle.capture_reader.specs.Window.{coming, still}
 use Rattle.capture_reader.proofs.Slices.{take_in_two}
 
 coming_after_read : (bytes items rest : List ℕ) (held count : ℕ) (none : Bool) → nat_eq count 0 ≡ none → take held items ≡ bytes
@@ -28,26 +26,3 @@ still_after_read bytes items held count before None kept moved ended = rw moved 
 still_after_read bytes items held count before (Some rest) kept moved ended =
     let at_end : count ≡ 0 → slice_range items held (held + count) ++ rest ≡ [] = λ empty. let P : Option (List ℕ) → Type 0 = λ left. IfSome left (λ xs. xs ≡ []) in subst P moved (ended empty) in
     rw moved (ap Some (coming_after_read bytes items rest held count (nat_eq count 0) refl kept at_end))
-
--- what reads leave is left by reads one after another
-pub only_both : {from : Input} {left left_between left_after : Input → Option (List ℕ)} {sent sent_between sent_after : Outlet → Option (List ℕ)}
-    {read_faults read_faults_between read_faults_after : Input → ℕ} {write_faults write_faults_between write_faults_after : Outlet → ℕ}
-    → OnlyReads from left left_between sent sent_between read_faults read_faults_between write_faults write_faults_between
-    → OnlyReads from left_between left_after sent_between sent_after read_faults_between read_faults_after write_faults_between write_faults_after
-    → OnlyReads from left left_after sent sent_after read_faults read_faults_after write_faults write_faults_after
-only_both first second = record {
-  other_inputs = λ input other. second.other_inputs input other ∙ first.other_inputs input other;
-  outlets = λ outlet. second.outlets outlet ∙ first.outlets outlet;
-  read_counts = λ input. omega (arith, first.read_counts input, second.read_counts input);
-  write_counts = λ outlet. omega (arith, first.write_counts outlet, second.write_counts outlet);
-}
-
--- no read at all
-pub only_none : {from : Input} {left : Input → Option (List ℕ)} {sent : Outlet → Option (List ℕ)} {read_faults : Input → ℕ} {write_faults : Outlet → ℕ}
-    → OnlyReads from left left sent sent read_faults read_faults write_faults write_faults
-only_none = record {
-  other_inputs = λ input other. refl;
-  outlets = λ outlet. refl;
-  read_counts = λ input. omega arith;
-  write_counts = λ outlet. omega arith;
-}

@@ -7,9 +7,9 @@ use Rattle.psd_base.specs.declared.act.Side.TheVariants.{Km}
 use Rattle.psd_base.specs.declared.stop.CaptureFault.TheVariants.{Truncated}
 use Rattle.psd_base.specs.declared.stop.Stop.{Stop}
 use Rattle.psd_base.specs.declared.stop.Stop.TheVariants.{Capture, TooLong}
-use Rattle.psd_base.specs.Event.{Seen, TimePasses, PortActs}
+use Rattle.psd_base.specs.Event.{PortActs}
 use Rattle.capture_reader.specs.Capture.{header, kind_of, form_of, has_fit_length, announced, act_of, happening_in, record_at, records, capture}
-use Rattle.capture_reader.specs.Schedule.{Schedule, cut, schedule, port_count}
+use Rattle.capture_reader.specs.Schedule.{cut, schedule, port_count}
 
 -- a port that asks for the device descriptor: a SETUP, an IN and an OUT
 device_descriptor : List ℕ
@@ -34,7 +34,7 @@ truncated offset = Some (Capture offset Truncated)
 cut_to_every_length :
     map outcome (upto 47)
     ≡ replicate 8 (0, truncated 0) ++ (0, None) ∷ [] ++ replicate 16 (0, truncated 8) ++ (1, None) ∷ []
-      ++ replicate 10 (1, truncated 25) ++ (2, None) ∷ [] ++ replicate 10 (2, truncated 36) ++ (3, None) ∷ []
+    ++ replicate 10 (1, truncated 25) ++ (2, None) ∷ [] ++ replicate 10 (2, truncated 36) ++ (3, None) ∷ []
 unfolding device_descriptor outcome upto truncated header kind_of form_of has_fit_length announced act_of happening_in record_at records capture cut schedule
 cut_to_every_length = refl
 
@@ -42,8 +42,8 @@ cut_to_every_length = refl
 whole_events :
     (schedule 16777216 device_descriptor).events
     ≡ record { tick = 1; happening = PortActs 1 Km (act.Setup 0 (record { kind = 0x80; request = 6; value = 0x0100; index = 0; length = 0x40 })) }
-      ∷ record { tick = 1; happening = PortActs 1 Km (act.In 0 0 true) }
-      ∷ record { tick = 1; happening = PortActs 1 Km (act.Out 0 0 true []) } ∷ []
+    ∷ record { tick = 1; happening = PortActs 1 Km (act.In 0 0 true) }
+    ∷ record { tick = 1; happening = PortActs 1 Km (act.Out 0 0 true []) } ∷ []
 unfolding device_descriptor header kind_of form_of has_fit_length announced act_of happening_in record_at records capture cut schedule
 whole_events = refl
 

@@ -1,5 +1,5 @@
 -- What is to come at the beginning.
-use Rattle.std.proofs.Common.{◌≡◌, ◌≢◌, ℕ, zero, suc, ◌+◌, ◌-◌, ◌≤◌, List, [], ◌∷◌, Option, Some, None, option_map, IfSome, IfNone, Result, Ok, Err, inl, inr, refl, sym, ap, ◌∙◌, subst, arith}
+use Rattle.std.proofs.Common.{◌≡◌, ◌≢◌, ℕ, zero, suc, ◌-◌, ◌≤◌, List, ◌∷◌, Option, Some, None, option_map, IfSome, IfNone, Ok, Err, inl, inr, refl, sym, ap, ◌∙◌, subst, arith}
 use Rattle.std.proofs.lemmas.Option.{same_Some}
 use Rattle.psd_base.specs.declared.event.Event.{Event}
 use Rattle.psd_base.specs.declared.outlet.Input.TheVariants as inputs
@@ -42,7 +42,7 @@ cut_no_fault (suc limit) event events stop offset why same =
 
 upcoming_first : (source : CaptureSource) (event : Event) (limit : ℕ) (left : List ℕ) → source.ahead ≡ Some event
     → upcoming (reading (record { capture = source; limit = limit; served = 0; state = Waiting })) left
-        ≡ cut_recording (limit - 0) (first (seen event) (records source.ports source.tick source.offset 0 (coming source.window left)))
+    ≡ cut_recording (limit - 0) (first (seen event) (records source.ports source.tick source.offset 0 (coming source.window left)))
 unfolding upcoming
 upcoming_first source event limit left is = rw is refl
 
@@ -73,8 +73,8 @@ look_failed source limit faults faults_after before left stops.Usage same failed
 look_failed source limit faults faults_after before left (stops.Rules why) same failed = failed
 look_failed source limit faults faults_after before left (stops.Capture offset why) same failed =
     over_of_later limit before (Some (stops.Capture offset why))
-        (subst (λ (recording : Option Recording). IfSome recording (λ r. r ≡ none_until (Some (stops.Capture offset why)))) same
-            (later_ends source.ports source.tick source.offset source.window (Some (stops.Capture offset why)) left failed))
+    (subst (λ (recording : Option Recording). IfSome recording (λ r. r ≡ none_until (Some (stops.Capture offset why)))) same
+    (later_ends source.ports source.tick source.offset source.window (Some (stops.Capture offset why)) left failed))
 look_failed source limit faults faults_after before left (stops.Script line why) same failed = failed
 look_failed source limit faults faults_after before left stops.TooLong same failed = failed
 look_failed source limit faults faults_after before left (stops.ReadFault inputs.Rules) same failed = failed

@@ -1,12 +1,11 @@
 -- What the header says, whatever comes behind it.
-use Rattle.std.proofs.Common.{◌≡◌, ℕ, ◌+◌, ◌-◌, ◌<◌, ◌≤◌, Bool, true, false, nat_lt, List, [], ◌∷◌, ◌++◌, length, drop, slice_index, Option, Some, None, option_map, IfSome, Result, Ok, Err, refl, sym, ap, ◌∙◌, subst, arith, append-nil, length-append}
+use Rattle.std.proofs.Common.{◌≡◌, ℕ, ◌<◌, ◌≤◌, true, false, nat_lt, List, [], ◌++◌, length, drop, slice_index, Option, Some, None, option_map, IfSome, Result, Ok, Err, refl, sym, ap, ◌∙◌, subst, arith, length-append}
 use Rattle.std.proofs.lemmas.Bool.Decides.{nat_tests}
-use Rattle.std.proofs.lemmas.List.{get_or_append_left, drop-append-le}
-use Rattle.psd_base.specs.declared.outlet.Input.TheVariants as inputs
+use Rattle.std.proofs.lemmas.List.{get_or_append_left}
 use Rattle.psd_base.specs.declared.stop.CaptureFault.TheVariants.{Truncated}
 use Rattle.psd_base.specs.declared.stop.Stop.{Stop}
 use Rattle.psd_base.specs.declared.stop.Stop.TheVariants as stops
-use Rattle.capture_reader.specs.Capture.{Recording, header, records, capture}
+use Rattle.capture_reader.specs.Capture.{header, records, capture}
 use Rattle.capture_reader.specs.Source.{later, IsCaptureStop, OpenFailed}
 use Rattle.capture_reader.specs.Window.{Held, coming, still}
 use Rattle.capture_reader.proofs.Ahead.{coming_is, coming_past, coming_ended}

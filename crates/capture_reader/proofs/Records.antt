@@ -1,15 +1,14 @@
 -- What the records in a list of bytes say, read record by record.
-use Rattle.std.proofs.Common.{◌≡◌, ℕ, zero, suc, ◌+◌, ◌-◌, ◌<◌, ◌≤◌, Bool, true, false, nat_lt, List, [], ◌∷◌, ◌++◌, length, take, drop, slice_range, slice_index, Option, Some, None, Result, Ok, Err, IsTrue, refl, sym, ap, ◌∙◌, subst, arith, append-nil, length-append, length-drop, get_or}
+use Rattle.std.proofs.Common.{◌≡◌, ℕ, zero, suc, ◌+◌, ◌-◌, ◌<◌, ◌≤◌, true, false, nat_lt, List, [], ◌∷◌, ◌++◌, length, take, drop, slice_range, slice_index, Some, Ok, Err, refl, sym, ap, ◌∙◌, arith, length-drop}
 use Rattle.std.proofs.lemmas.Bool.Decides.{nat_tests}
 use Rattle.std.proofs.lemmas.List.{get_or_append_left, drop-append-le, take-append-le}
 use Rattle.psd_base.specs.declared.stop.CaptureFault.{CaptureFault}
 use Rattle.psd_base.specs.declared.stop.CaptureFault.TheVariants.{Truncated}
-use Rattle.psd_base.specs.declared.stop.Stop.{Stop}
 use Rattle.psd_base.specs.declared.stop.Stop.TheVariants as stops
 use Rattle.psd_base.specs.Event.{Happening, Seen}
 use Rattle.capture_reader.specs.declared.form.Form.{Form}
 use Rattle.capture_reader.specs.declared.form.Head.{Head}
-use Rattle.capture_reader.specs.Capture.{Recording, first, none_until, head_of, size_of, payload_of, announced, happening_in, record_at, records}
+use Rattle.capture_reader.specs.Capture.{first, none_until, head_of, size_of, payload_of, announced, happening_in, record_at, records}
 
 -- so many bytes are passed over
 pub records_skipped : (ports last offset skip : ℕ) (bytes : List ℕ) → records ports last offset skip bytes ≡ records ports last (offset + skip) 0 (drop skip bytes)
@@ -30,8 +29,8 @@ records_valid ports last offset event (byte ∷ bytes) some valid =
     let place : offset + 1 + (size - 1) ≡ offset + size = omega arith in
     let positive : size ≡ suc (size - 1) = omega arith in
     rw (valid, records) (ap (first event) (records_skipped ports event.tick (offset + 1) (size - 1) bytes
-        ∙ ap (λ place. records ports event.tick place 0 (drop (size - 1) bytes)) place
-        ∙ ap (λ count. records ports event.tick (offset + size) 0 (drop count (byte ∷ bytes))) (sym positive)))
+    ∙ ap (λ place. records ports event.tick place 0 (drop (size - 1) bytes)) place
+    ∙ ap (λ count. records ports event.tick (offset + size) 0 (drop count (byte ∷ bytes))) (sym positive)))
 
 -- no record at the front
 pub records_faulty : (ports last offset : ℕ) (why : CaptureFault) (bytes : List ℕ) → 0 < length bytes → record_at ports last bytes ≡ Err why

@@ -1,5 +1,5 @@
 -- What is to come after each step of a run.
-use Rattle.std.proofs.Common.{◌≡◌, ◌≢◌, ℕ, Bool, true, false, suc, ◌+◌, ◌-◌, ◌<◌, ◌≤◌, List, [], ◌∷◌, Option, Some, None, option_map, is_some, IsSome, IfSome, IsSomeAnd, Result, Ok, Err, refl, sym, ap, ◌∙◌, subst, arith}
+use Rattle.std.proofs.Common.{◌≡◌, ◌≢◌, ℕ, Bool, true, false, suc, ◌+◌, ◌-◌, ◌<◌, List, Option, Some, None, option_map, is_some, IsSome, IsSomeAnd, Result, Ok, refl, sym, ap, ◌∙◌, subst, arith}
 use Rattle.std.proofs.lemmas.Option.{MatchOption-at_none}
 use Rattle.psd_base.specs.declared.event.Event.{Event}
 use Rattle.psd_base.specs.declared.stop.Stop.{Stop}
@@ -11,12 +11,12 @@ use Rattle.capture_reader.specs.declared.progress.Progress.{Progress}
 use Rattle.capture_reader.specs.declared.progress.State.{State}
 use Rattle.capture_reader.specs.declared.progress.State.TheVariants.{Waiting, Given, Stopped}
 use Rattle.capture_reader.specs.declared.source.CaptureSource.{CaptureSource}
-use Rattle.capture_reader.specs.Capture.{Recording, first, none_until, records}
+use Rattle.capture_reader.specs.Capture.{Recording, first, records}
 use Rattle.capture_reader.specs.Progress.{reading, given_in, waiting_in, stop_in, Fits}
-use Rattle.capture_reader.specs.Reader.{Reading, upcoming, rest, GivesNext, IsAtEnd, IsOver, ShowsOver, StopsBecause}
+use Rattle.capture_reader.specs.Reader.{Reading, upcoming, rest, IsAtEnd, IsOver, ShowsOver, StopsBecause}
 use Rattle.capture_reader.specs.Schedule.{Schedule, in_front, over, cut, cut_recording}
 use Rattle.capture_reader.specs.Source.{later, after_ahead, Ends, LookFailed}
-use Rattle.capture_reader.specs.Window.{Held, coming, still}
+use Rattle.capture_reader.specs.Window.{coming, still}
 
 -- what is to come, by what the records say that are still to come
 pub rest_by_later : (reading : Reading) (left : Option (List ℕ)) → rest reading left
@@ -34,7 +34,7 @@ fused limit ahead (Some recording) = refl
 pub rest_looked : (now new : CaptureSource) (limit served : ℕ) (left left_after : Option (List ℕ))
     → later now.ports now.tick now.offset now.window left ≡ option_map (after_ahead (option_map seen new.ahead)) (later new.ports new.tick new.offset new.window left_after)
     → rest (reading (record { capture = new; limit = limit; served = served; state = Waiting })) left_after
-        ≡ rest (reading (record { capture = now; limit = limit; served = served; state = Given })) left
+    ≡ rest (reading (record { capture = now; limit = limit; served = served; state = Given })) left
 rest_looked now new limit served left left_after read =
     rest_by_later (reading (record { capture = new; limit = limit; served = served; state = Waiting })) left_after
     ∙ fused (limit - served) (option_map seen new.ahead) (later new.ports new.tick new.offset new.window left_after)
@@ -44,7 +44,7 @@ rest_looked now new limit served left left_after read =
 pub rest_failed : (now new : CaptureSource) (limit served : ℕ) (stop : Stop) (left left_after : Option (List ℕ)) → new.ahead ≡ None
     → later new.ports new.tick new.offset new.window left_after ≡ later now.ports now.tick now.offset now.window left
     → rest (reading (record { capture = new; limit = limit; served = served; state = Stopped stop })) left_after
-        ≡ rest (reading (record { capture = now; limit = limit; served = served; state = Given })) left
+    ≡ rest (reading (record { capture = now; limit = limit; served = served; state = Given })) left
 rest_failed now new limit served stop left left_after none same =
     rest_by_later (reading (record { capture = new; limit = limit; served = served; state = Stopped stop })) left_after
     ∙ ap (λ ahead. option_map (λ recording. cut_recording (limit - served) (after_ahead (option_map seen ahead) recording)) (later new.ports new.tick new.offset new.window left_after)) none
@@ -67,7 +67,7 @@ cut_full limit served event recording full =
 -- the event that was read ahead is given
 pub gives_next : (capture : CaptureSource) (ahead : Option Event) (limit served : ℕ) (left : Option (List ℕ)) → capture.ahead ≡ ahead → IsSome ahead → served < limit
     → IsSomeAnd (option_map seen ahead) (λ event. rest (reading (record { capture = capture; limit = limit; served = served; state = Waiting })) left
-        ≡ option_map (in_front event) (rest (reading (record { capture = capture; limit = limit; served = served + 1; state = Given })) left))
+    ≡ option_map (in_front event) (rest (reading (record { capture = capture; limit = limit; served = served + 1; state = Given })) left))
 unfolding rest upcoming
 gives_next capture None limit served left is some below = absurd (cc)
 gives_next capture (Some event) limit served None is some below = refl

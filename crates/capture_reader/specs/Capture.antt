@@ -1,8 +1,7 @@
 -- The capture: a header of eight bytes, then records to the end of the input. Numbers of several bytes have their low byte first.
-use Rattle.std.specs.Prelude.{ℕ, zero, suc, ◌+◌, ◌-◌, ◌*◌, Bool, true, false, ◌&&◌, ◌==◌, nat_lt, nat_le, List, [], ◌∷◌, length, drop, slice_index, slice_range, Option, Some, None, Result, Ok, Err, if◌then◌else◌}
+use Rattle.std.specs.Prelude.{ℕ, zero, suc, ◌+◌, ◌-◌, ◌*◌, Bool, ◌&&◌, ◌==◌, nat_lt, nat_le, List, [], ◌∷◌, length, drop, slice_index, slice_range, Option, Some, None, Result, Ok, Err, if◌then◌else◌}
 use Rattle.psd_base.specs.declared.act.Act.{Act}
 use Rattle.psd_base.specs.declared.act.Act.TheVariants as act
-use Rattle.psd_base.specs.declared.act.Side.{Side}
 use Rattle.psd_base.specs.declared.act.Side.TheVariants.{Km, Ua}
 use Rattle.psd_base.specs.declared.port.TheConstants.{MAX_PORTS}
 use Rattle.psd_base.specs.declared.stop.CaptureFault.{CaptureFault}
@@ -137,8 +136,8 @@ unfoldable pub records : ℕ → ℕ → ℕ → ℕ → List ℕ → Recording
 records ports last offset skip [] = none_until None
 records ports last offset zero (byte ∷ bytes) =
     elim (record_at ports last (byte ∷ bytes)) [
-      Ok event ↦ first event (records ports event.tick (offset + 1) (size_of (head_of (byte ∷ bytes)) - 1) bytes)
-    | Err why ↦ none_until (Some (stops.Capture offset why))
+      | Ok event ↦ first event (records ports event.tick (offset + 1) (size_of (head_of (byte ∷ bytes)) - 1) bytes)
+      | Err why ↦ none_until (Some (stops.Capture offset why))
     ]
 records ports last offset (suc skip) (byte ∷ bytes) = records ports last (offset + 1) skip bytes
 

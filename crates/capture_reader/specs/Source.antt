@@ -1,20 +1,25 @@
 -- A capture as a source of events, which is read one record ahead.
-use Rattle.std.specs.Prelude.{◌≡◌, ℕ, ◌+◌, ◌≤◌, List, [], length, Option, Some, None, option_map, Ok, Err, IfSome, IsTrue}
+use Rattle.std.specs.Prelude.{◌≡◌, ℕ, ◌≤◌, List, [], length, Option, Some, None, option_map, Ok, Err, IfSome, IsTrue}
 use Rattle.psd_base.specs.declared.outlet.Input.TheVariants as inputs
 use Rattle.psd_base.specs.declared.stop.Stop.{Stop}
 use Rattle.psd_base.specs.declared.stop.Stop.TheVariants as stops
 use Rattle.psd_base.specs.Desk.{Rose}
-use Rattle.psd_base.specs.Event.{Happening, Seen, TimePasses, PortActs}
+use Rattle.psd_base.specs.declared.event.Event.{Event}
+use Rattle.psd_base.specs.Event.{Happening, Seen, TimePasses, PortActs, seen}
 use Rattle.capture_reader.specs.declared.decode.TheConstants.{PAYLOAD_MAX}
 use Rattle.capture_reader.specs.declared.form.Form.{Form}
 use Rattle.capture_reader.specs.declared.form.Form.TheVariants as forms
 use Rattle.capture_reader.specs.declared.form.Head.{Head}
+use Rattle.capture_reader.specs.declared.source.CaptureSource.{CaptureSource}
 use Rattle.capture_reader.specs.Capture.{Recording, first, none_until, header, head_of, has_fit_length, kind_in, announced, records}
 use Rattle.capture_reader.specs.Window.{Held, coming, still}
 
 -- what the records say that are still to come, where the desk has these bytes left or doesn't tell
 unfoldable pub later : ℕ → ℕ → ℕ → Held → Option (List ℕ) → Option Recording
 later ports last offset held left = option_map (records ports last offset 0) (still held left)
+
+abbrev pub later_of : CaptureSource → Option (List ℕ) → Option Recording
+later_of source left = later source.ports source.tick source.offset source.window left
 
 -- an event that was read ahead, and what comes after it
 abbrev pub after_ahead : Option Seen → Recording → Recording
@@ -25,6 +30,9 @@ after_ahead (Some event) recording = first event recording
 abbrev pub Ends : ℕ → ℕ → ℕ → Held → Option Stop → Type 0
 Ends ports last offset held stop = (left : List ℕ) → records ports last offset 0 (coming held left) ≡ none_until stop
 
+abbrev pub EndsNow : CaptureSource → Option Stop → Type 0
+EndsNow source stop = Ends source.ports source.tick source.offset source.window stop
+
 -- the bytes that are held have no whole record at their front
 abbrev pub IsPartial : ℕ → ℕ → ℕ → Held → Type 0
 IsPartial ports last offset held = (records ports last offset 0 held.bytes).events ≡ []
@@ -34,6 +42,9 @@ abbrev pub LookFailed : ℕ → ℕ → ℕ → Held → ℕ → ℕ → Stop �
 LookFailed ports last offset held faults faults_after (stops.ReadFault inputs.Capture) = Rose faults faults_after × IsPartial ports last offset held
 LookFailed ports last offset held faults faults_after (stops.Capture place why) = Ends ports last offset held (Some (stops.Capture place why))
 LookFailed ports last offset held faults faults_after stop = ⊥
+
+abbrev pub FailedLook : CaptureSource → ℕ → ℕ → Stop → Type 0
+FailedLook source faults faults_after stop = LookFailed source.ports source.tick source.offset source.window faults faults_after stop
 
 abbrev pub IsCaptureStop : Stop → Type 0
 IsCaptureStop (stops.Capture offset why) = Unit {0}
@@ -63,3 +74,10 @@ pub record Announces (ports last : ℕ) (bytes : List ℕ) (head : Head) (form :
   pub port_is_within : IsFormWithin ports form
   pub size_fits : IsTrue (has_fit_length (kind_in form) head.length)
   pub size_is_small : head.length ≤ PAYLOAD_MAX
+
+abbrev pub AnnouncesNext : CaptureSource → Head → Form → Type 0
+AnnouncesNext source head form = Announces source.ports source.tick source.window.bytes head form
+
+-- the next event, whose tick is that of the last record that was read, at one of the ports
+abbrev pub IsNext : CaptureSource → Event → Type 0
+IsNext source event = (event.tick ≡ source.tick) × HappensWithin source.ports (seen event).happening

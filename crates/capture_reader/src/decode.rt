@@ -6,7 +6,9 @@ ghost use Rattle.psd_base.specs.Event.{happening_of, seen};
 ghost use Rattle.psd_base.specs.Port.{IsPort};
 
 use crate::form::{ActKind, Form, Head, Kind};
-use psd_base::{Act, CaptureFault, Event, MAX_PORTS, Packet, PortId, Setup, Side, Stop, Tick, What};
+use psd_base::{
+    Act, CaptureFault, Event, MAX_PORTS, Packet, PortId, Setup, Side, Stop, Tick, What,
+};
 
 /// The size of the capture's header in bytes, and that of a record's head.
 pub const HEAD_SIZE: usize = 8;
@@ -186,7 +188,8 @@ fn read_setup(payload: &[u8]) -> Result<Act, CaptureFault>
         return Err(CaptureFault::BadField);
     }
     let setup = Setup::read(&[
-        payload[1], payload[2], payload[3], payload[4], payload[5], payload[6], payload[7], payload[8],
+        payload[1], payload[2], payload[3], payload[4], payload[5], payload[6], payload[7],
+        payload[8],
     ]);
     Ok(Act::Setup { address, setup })
 }

@@ -9,3 +9,6 @@ mod source;
 mod window;
 
 pub use reader::Reader;
+
+#[cfg(test)]
+mod tests;

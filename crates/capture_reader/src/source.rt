@@ -17,10 +17,11 @@ pub struct CaptureSource {
 }
 
 impl CaptureSource {
-    ghost use Rattle.std.specs.Prelude.{◌≡◌, ℕ, ◌+◌, ◌<◌, ◌≤◌, ◌^◌, List, [], length, drop, true, false, Some, None, Ok, Err, option_map, IfOk, IfErr, IfSome, IfNone, IsSomeAnd, OnOk, OnErr};
+    ghost use Rattle.std.specs.Prelude.{◌≡◌, ℕ, ◌+◌, ◌<◌, ◌≤◌, ◌^◌, List, [], length, drop, true, false, Some, None, Ok, Err, option_map};
+    ghost use Rattle.std.specs.Prelude.{IfOk, IfErr, IfSome, IfNone, IsSomeAnd, OnOk, OnErr};
     ghost use Rattle.psd_base.specs.Event.{seen};
     ghost use Rattle.capture_reader.specs.Capture.{header, capture, first, size_of, records};
-    ghost use Rattle.capture_reader.specs.Source.{later, after_ahead, Ends, LookFailed, OpenFailed, IsCaptureStop, Announces, HappensWithin};
+    ghost use Rattle.capture_reader.specs.Source.{later, later_of, after_ahead, AnnouncesNext, EndsNow, FailedLook, IsCaptureStop, IsNext, LookFailed, OpenFailed};
     ghost use Rattle.capture_reader.specs.Window.{coming, still, OnlyReads};
 
     /// Reads the header of a capture.
@@ -29,9 +30,14 @@ impl CaptureSource {
         ensures ports { IfOk result (λ source. (2 ≤ source.ports) × (source.ports ≤ MAX_PORTS)) }
         ensures begin { IfOk result (λ source. (source.tick ≡ 0) × (source.offset ≡ 8) × (source.ahead ≡ None)) }
         ensures header { IfOk result (λ source. IfSome (D.left desk.old Input.Capture) (λ bytes. header bytes ≡ Ok source.ports)) }
-        ensures records { IfOk result (λ source. option_map capture (D.left desk.old Input.Capture) ≡ later source.ports 0 8 source.window (D.left desk.new Input.Capture)) }
-        ensures err { IfErr result (OpenFailed (D.left desk.old Input.Capture) (D.read_faults desk.old Input.Capture) (D.read_faults desk.new Input.Capture)) }
-        ensures only { OnlyReads Input.Capture (D.left desk.old) (D.left desk.new) (D.sent desk.old) (D.sent desk.new) (D.read_faults desk.old) (D.read_faults desk.new) (D.write_faults desk.old) (D.write_faults desk.new) }
+        ensures records { IfOk result (λ source. option_map capture (D.left desk.old Input.Capture)
+            ≡ later source.ports 0 8 source.window (D.left desk.new Input.Capture)) }
+        ensures err { IfErr result (OpenFailed (D.left desk.old Input.Capture)
+            (D.read_faults desk.old Input.Capture) (D.read_faults desk.new Input.Capture)) }
+        ensures only { OnlyReads Input.Capture
+            (D.left desk.old) (D.left desk.new) (D.sent desk.old) (D.sent desk.new)
+            (D.read_faults desk.old) (D.read_faults desk.new)
+            (D.write_faults desk.old) (D.write_faults desk.new) }
     {
         let mut window = window;
         match window.hold(desk, Input::Capture, HEAD_SIZE) {
@@ -49,7 +55,8 @@ impl CaptureSource {
         requires { 8 ≤ length window.bytes }
         ensures ports { IfOk result (λ source. (2 ≤ source.ports) × (source.ports ≤ MAX_PORTS)) }
         ensures begin { IfOk result (λ source. (source.tick ≡ 0) × (source.offset ≡ 8) × (source.ahead ≡ None)) }
-        ensures behind { IfOk result (λ source. (header window.bytes ≡ Ok source.ports) × (source.window ≡ record window { bytes = drop 8 window.bytes })) }
+        ensures behind { IfOk result (λ source. (header window.bytes ≡ Ok source.ports)
+            × (source.window ≡ record window { bytes = drop 8 window.bytes })) }
         ensures err { IfErr result (λ stop. (header window.bytes ≡ Err stop) × IsCaptureStop stop) }
     {
         match read_header(window.bytes()) {
@@ -76,58 +83,85 @@ impl CaptureSource {
         ensures tick { self.old.tick ≤ self.new.tick }
         ensures offset { self.new.offset ≤ self.old.offset + WINDOW_SIZE }
 
-        ensures read { OnOk result (later self.old.ports self.old.tick self.old.offset self.old.window (D.left desk.old Input.Capture)
-            ≡ option_map (after_ahead (option_map seen self.new.ahead)) (later self.new.ports self.new.tick self.new.offset self.new.window (D.left desk.new Input.Capture))) }
-        ensures ahead { OnOk result (IfSome self.new.ahead (λ event. (event.tick ≡ self.new.tick) × HappensWithin self.new.ports (seen event).happening)) }
-        ensures end { OnOk result (IfNone self.new.ahead (Ends self.new.ports self.new.tick self.new.offset self.new.window None)) }
+        ensures read { OnOk result (later_of self.old (D.left desk.old Input.Capture)
+            ≡ option_map (after_ahead (option_map seen self.new.ahead)) (later_of self.new (D.left desk.new Input.Capture))) }
+        ensures ahead { OnOk result (IfSome self.new.ahead (IsNext self.new)) }
+        ensures end { OnOk result (IfNone self.new.ahead (EndsNow self.new None)) }
 
-        ensures err { IfErr result (LookFailed self.new.ports self.new.tick self.new.offset self.new.window (D.read_faults desk.old Input.Capture) (D.read_faults desk.new Input.Capture)) }
-        ensures stays { OnErr result (later self.new.ports self.new.tick self.new.offset self.new.window (D.left desk.new Input.Capture)
-            ≡ later self.old.ports self.old.tick self.old.offset self.old.window (D.left desk.old Input.Capture)) }
+        ensures err { IfErr result (FailedLook self.new
+            (D.read_faults desk.old Input.Capture) (D.read_faults desk.new Input.Capture)) }
+        ensures stays { OnErr result (later_of self.new (D.left desk.new Input.Capture)
+            ≡ later_of self.old (D.left desk.old Input.Capture)) }
+        ensures unread { self.old.window.ended ≡ true → (self.new.window.ended ≡ true) × (desk.new ≡ desk.old) }
         ensures none { OnErr result (self.new.ahead ≡ None) }
 
-        ensures only { OnlyReads Input.Capture (D.left desk.old) (D.left desk.new) (D.sent desk.old) (D.sent desk.new) (D.read_faults desk.old) (D.read_faults desk.new) (D.write_faults desk.old) (D.write_faults desk.new) }
+        ensures only { OnlyReads Input.Capture
+            (D.left desk.old) (D.left desk.new) (D.sent desk.old) (D.sent desk.new)
+            (D.read_faults desk.old) (D.read_faults desk.new)
+            (D.write_faults desk.old) (D.write_faults desk.new) }
     {
         self.ahead = None;
-        match self.look_at_head(desk) {
-            Ok(Some((head, form))) => self.look_at_payload(desk, &head, form),
-            Ok(None) => Ok(()),
-            Err(stop) => Err(stop),
-        }
-    }
-
-    /// Looks at the head of the next record. There is none at the end of the capture.
-    fn look_at_head<D: Desk>(&mut self, desk: &mut D) -> Result<Option<(Head, Form)>, Stop>
-        requires ports { self.old.ports ≤ MAX_PORTS }
-        ensures same { self.new ≡ record self.old { window = self.new.window } }
-        ensures still { still self.new.window (D.left desk.new Input.Capture) ≡ still self.old.window (D.left desk.old Input.Capture) }
-        ensures head { IfOk result (λ found. IfSome found (λ head. Announces self.new.ports self.new.tick self.new.window.bytes head.0 head.1)) }
-        ensures end { IfOk result (λ found. IfNone found (Ends self.new.ports self.new.tick self.new.offset self.new.window None)) }
-        ensures err { IfErr result (LookFailed self.new.ports self.new.tick self.new.offset self.new.window (D.read_faults desk.old Input.Capture) (D.read_faults desk.new Input.Capture)) }
-        ensures only { OnlyReads Input.Capture (D.left desk.old) (D.left desk.new) (D.sent desk.old) (D.sent desk.new) (D.read_faults desk.old) (D.read_faults desk.new) (D.write_faults desk.old) (D.write_faults desk.new) }
-    {
         match self.window.hold(desk, Input::Capture, HEAD_SIZE) {
-            Ok(true) => self.head(),
+            Ok(true) => self.look_at_head(desk),
             Ok(false) => self.end(),
             Err(_) => Err(Stop::ReadFault(Input::Capture)),
         }
     }
 
-    /// Looks at the payload of the next record, whose head is held.
-    fn look_at_payload<D: Desk>(&mut self, desk: &mut D, head: &Head, form: Form) -> Result<(), Stop>
-        requires sound { Announces self.old.ports self.old.tick self.old.window.bytes head.now form }
+    /// Looks at the next record, whose head is held.
+    fn look_at_head<D: Desk>(&mut self, desk: &mut D) -> Result<(), Stop>
+        requires whole { 8 ≤ length self.old.window.bytes }
+        requires ports { self.old.ports ≤ MAX_PORTS }
         requires offset { self.old.offset < 2 ^ 63 }
         ensures ports { self.new.ports ≡ self.old.ports }
         ensures tick { self.old.tick ≤ self.new.tick }
         ensures offset { self.new.offset ≤ self.old.offset + WINDOW_SIZE }
-        ensures ok { OnOk result (IsSomeAnd self.new.ahead (λ event. (event.tick ≡ self.new.tick) × HappensWithin self.new.ports (seen event).happening
-            × (later self.old.ports self.old.tick self.old.offset self.old.window (D.left desk.old Input.Capture)
-            ≡ option_map (first (seen event)) (later self.new.ports self.new.tick self.new.offset self.new.window (D.left desk.new Input.Capture))))) }
-        ensures err { IfErr result (LookFailed self.old.ports self.old.tick self.old.offset self.new.window (D.read_faults desk.old Input.Capture) (D.read_faults desk.new Input.Capture)) }
+        ensures ok { OnOk result (IsSomeAnd self.new.ahead (λ event. IsNext self.new event
+            × (later_of self.old (D.left desk.old Input.Capture)
+            ≡ option_map (first (seen event)) (later_of self.new (D.left desk.new Input.Capture))))) }
+        ensures err { IfErr result (LookFailed self.old.ports self.old.tick self.old.offset self.new.window
+            (D.read_faults desk.old Input.Capture) (D.read_faults desk.new Input.Capture)) }
         ensures same { OnErr result (self.new ≡ record self.old { window = self.new.window }) }
-        ensures stays { OnErr result (later self.new.ports self.new.tick self.new.offset self.new.window (D.left desk.new Input.Capture)
-            ≡ later self.old.ports self.old.tick self.old.offset self.old.window (D.left desk.old Input.Capture)) }
-        ensures only { OnlyReads Input.Capture (D.left desk.old) (D.left desk.new) (D.sent desk.old) (D.sent desk.new) (D.read_faults desk.old) (D.read_faults desk.new) (D.write_faults desk.old) (D.write_faults desk.new) }
+        ensures stays { OnErr result (later_of self.new (D.left desk.new Input.Capture)
+            ≡ later_of self.old (D.left desk.old Input.Capture)) }
+        ensures unread { self.old.window.ended ≡ true → (self.new.window.ended ≡ true) × (desk.new ≡ desk.old) }
+        ensures only { OnlyReads Input.Capture
+            (D.left desk.old) (D.left desk.new) (D.sent desk.old) (D.sent desk.new)
+            (D.read_faults desk.old) (D.read_faults desk.new)
+            (D.write_faults desk.old) (D.write_faults desk.new) }
+    {
+        let head = read_head(self.window.bytes());
+        match announce(self.ports, self.tick, &head) {
+            Ok(form) => self.look_at_payload(desk, &head, form),
+            Err(why) => Err(self.fault(why)),
+        }
+    }
+
+    /// Looks at the payload of the next record, whose head is held.
+    fn look_at_payload<D: Desk>(
+        &mut self,
+        desk: &mut D,
+        head: &Head,
+        form: Form,
+    ) -> Result<(), Stop>
+        requires sound { AnnouncesNext self.old head.now form }
+        requires offset { self.old.offset < 2 ^ 63 }
+        ensures ports { self.new.ports ≡ self.old.ports }
+        ensures tick { self.old.tick ≤ self.new.tick }
+        ensures offset { self.new.offset ≤ self.old.offset + WINDOW_SIZE }
+        ensures ok { OnOk result (IsSomeAnd self.new.ahead (λ event. IsNext self.new event
+            × (later_of self.old (D.left desk.old Input.Capture)
+            ≡ option_map (first (seen event)) (later_of self.new (D.left desk.new Input.Capture))))) }
+        ensures err { IfErr result (LookFailed self.old.ports self.old.tick self.old.offset self.new.window
+            (D.read_faults desk.old Input.Capture) (D.read_faults desk.new Input.Capture)) }
+        ensures same { OnErr result (self.new ≡ record self.old { window = self.new.window }) }
+        ensures stays { OnErr result (later_of self.new (D.left desk.new Input.Capture)
+            ≡ later_of self.old (D.left desk.old Input.Capture)) }
+        ensures unread { self.old.window.ended ≡ true → (self.new.window.ended ≡ true) × (desk.new ≡ desk.old) }
+        ensures only { OnlyReads Input.Capture
+            (D.left desk.old) (D.left desk.new) (D.sent desk.old) (D.sent desk.new)
+            (D.read_faults desk.old) (D.read_faults desk.new)
+            (D.write_faults desk.old) (D.write_faults desk.new) }
     {
         let size = HEAD_SIZE + head.length as usize;
         match self.window.hold(desk, Input::Capture, size) {
@@ -137,29 +171,15 @@ impl CaptureSource {
         }
     }
 
-    /// The head of the next record, which is held.
-    fn head(&self) -> Result<Option<(Head, Form)>, Stop>
-        requires whole { 8 ≤ length self.now.window.bytes }
-        requires ports { self.now.ports ≤ MAX_PORTS }
-        ensures ok { IfOk result (λ found. IsSomeAnd found (λ head. Announces self.now.ports self.now.tick self.now.window.bytes head.0 head.1)) }
-        ensures err { (before after : ℕ) → IfErr result (LookFailed self.now.ports self.now.tick self.now.offset self.now.window before after) }
-    {
-        let head = read_head(self.window.bytes());
-        match announce(self.ports, self.tick, &head) {
-            Ok(form) => Ok(Some((head, form))),
-            Err(why) => Err(self.fault(why)),
-        }
-    }
-
-    /// No head, where the input ended before one is whole.
-    fn end(&self) -> Result<Option<(Head, Form)>, Stop>
+    /// No record, where the input ended before a head is whole: the end of the capture, or a head that is cut off.
+    fn end(&self) -> Result<(), Stop>
         requires ended { self.now.window.ended ≡ true }
         requires short { length self.now.window.bytes < 8 }
-        ensures ok { IfOk result (λ found. (found ≡ None) × Ends self.now.ports self.now.tick self.now.offset self.now.window None) }
-        ensures err { (before after : ℕ) → IfErr result (LookFailed self.now.ports self.now.tick self.now.offset self.now.window before after) }
+        ensures ok { OnOk result (EndsNow self.now None) }
+        ensures err { (before after : ℕ) → IfErr result (FailedLook self.now before after) }
     {
         if self.window.len() == 0 {
-            return Ok(None);
+            return Ok(());
         }
         Err(self.fault(CaptureFault::Truncated))
     }
@@ -176,16 +196,18 @@ impl CaptureSource {
 
     /// The next record, which is held, becomes the one that was read ahead.
     fn take_record(&mut self, head: &Head, form: Form) -> Result<(), Stop>
-        requires sound { Announces self.old.ports self.old.tick self.old.window.bytes head.now form }
+        requires sound { AnnouncesNext self.old head.now form }
         requires enough { size_of head.now ≤ length self.old.window.bytes }
         requires offset { self.old.offset < 2 ^ 63 }
         ensures ports { self.new.ports ≡ self.old.ports }
+        ensures window { self.new.window.ended ≡ self.old.window.ended }
         ensures tick { OnOk result (self.new.tick ≡ head.now.tick) }
         ensures offset { OnOk result (self.new.offset ≡ self.old.offset + size_of head.now) }
-        ensures ahead { OnOk result (IsSomeAnd self.new.ahead (λ event. (event.tick ≡ self.new.tick) × HappensWithin self.new.ports (seen event).happening
+        ensures ahead { OnOk result (IsSomeAnd self.new.ahead (λ event. IsNext self.new event
             × ((left : List ℕ) → records self.old.ports self.old.tick self.old.offset 0 (coming self.old.window left)
             ≡ first (seen event) (records self.new.ports self.new.tick self.new.offset 0 (coming self.new.window left))))) }
-        ensures err { (before after : ℕ) → IfErr result (LookFailed self.old.ports self.old.tick self.old.offset self.new.window before after) }
+        ensures err { (before after : ℕ) → IfErr result
+            (LookFailed self.old.ports self.old.tick self.old.offset self.new.window before after) }
         ensures same { OnErr result (self.new ≡ self.old) }
     {
         let size = HEAD_SIZE + head.length as usize;
@@ -201,7 +223,7 @@ impl CaptureSource {
                 });
                 Ok(())
             }
-            Err(why) => Err(self.fault(why)),
+            Err(field) => Err(self.fault(field)),
         }
     }
 }

@@ -54,6 +54,7 @@ impl Window {
     }
 
     /// How many bytes are held.
+    #[inline(always)]
     pub fn len(&self) -> usize
         ensures { result ≡ length self.now.bytes }
     {
@@ -61,6 +62,7 @@ impl Window {
     }
 
     /// Whether the end of the input was met.
+    #[inline(always)]
     pub fn has_ended(&self) -> bool
         ensures { result ≡ self.now.ended }
     {
@@ -77,15 +79,25 @@ impl Window {
 
     /// Reads on until this many bytes are held or the end of the input is met, and answers whether they are. A read that
     /// failed leaves what is held.
-    pub fn hold<D: Desk>(&mut self, desk: &mut D, from: Input, count: usize) -> Result<bool, DeskFailed>
+    #[inline(always)]
+    pub fn hold<D: Desk>(
+        &mut self,
+        desk: &mut D,
+        from: Input,
+        count: usize,
+    ) -> Result<bool, DeskFailed>
         requires { count ≤ WINDOW_SIZE }
         ensures still { still self.new (D.left desk.new from) ≡ still self.old (D.left desk.old from) }
         ensures front { Begins self.old.bytes self.new.bytes }
         ensures held { result ≡ Ok true → count ≤ length self.new.bytes }
         ensures ended { result ≡ Ok false → (self.new.ended ≡ true) × (length self.new.bytes < count) }
         ensures short { OnErr result (length self.new.bytes < count) }
+        ensures unread { self.old.ended ≡ true → (self.new ≡ self.old) × (desk.new ≡ desk.old) }
         ensures failed { OnErr result (Rose (D.read_faults desk.old from) (D.read_faults desk.new from)) }
-        ensures only { OnlyReads from (D.left desk.old) (D.left desk.new) (D.sent desk.old) (D.sent desk.new) (D.read_faults desk.old) (D.read_faults desk.new) (D.write_faults desk.old) (D.write_faults desk.new) }
+        ensures only { OnlyReads from
+            (D.left desk.old) (D.left desk.new) (D.sent desk.old) (D.sent desk.new)
+            (D.read_faults desk.old) (D.read_faults desk.new)
+            (D.write_faults desk.old) (D.write_faults desk.new) }
     {
         'reads: while self.len() < count {
             if self.has_ended() {
@@ -97,6 +109,8 @@ impl Window {
     }
 
     /// Reads once behind what is held.
+    #[cold]
+    #[inline(never)]
     fn refill<D: Desk>(&mut self, desk: &mut D, from: Input) -> Result<(), DeskFailed>
         requires room { length self.old.bytes < WINDOW_SIZE }
         requires open { self.old.ended ≡ false }
@@ -105,7 +119,10 @@ impl Window {
         ensures more { OnOk result (self.new.ended ≡ false → length self.old.bytes < length self.new.bytes) }
         ensures same { OnErr result (self.new ≡ self.old) }
         ensures failed { OnErr result (Rose (D.read_faults desk.old from) (D.read_faults desk.new from)) }
-        ensures only { OnlyReads from (D.left desk.old) (D.left desk.new) (D.sent desk.old) (D.sent desk.new) (D.read_faults desk.old) (D.read_faults desk.new) (D.write_faults desk.old) (D.write_faults desk.new) }
+        ensures only { OnlyReads from
+            (D.left desk.old) (D.left desk.new) (D.sent desk.old) (D.sent desk.new)
+            (D.read_faults desk.old) (D.read_faults desk.new)
+            (D.write_faults desk.old) (D.write_faults desk.new) }
     {
         let held = self.end - self.start;
         move_to_front(&mut self.buffer, self.start, self.end);
@@ -129,7 +146,12 @@ fn move_to_front(buffer: &mut Vec<u8>, start: usize, end: usize)
 }
 
 /// Reads once into the buffer from `end` on.
-fn read_behind<D: Desk>(desk: &mut D, from: Input, buffer: &mut [u8], end: usize) -> Result<usize, DeskFailed>
+fn read_behind<D: Desk>(
+    desk: &mut D,
+    from: Input,
+    buffer: &mut [u8],
+    end: usize,
+) -> Result<usize, DeskFailed>
     requires { end < length buffer.old }
     ensures kept { take end buffer.new ≡ take end buffer.old }
     ensures within { IfOk result (λ count. end + count ≤ length buffer.old) }
@@ -137,7 +159,10 @@ fn read_behind<D: Desk>(desk: &mut D, from: Input, buffer: &mut [u8], end: usize
     ensures ended { result ≡ Ok 0 → IfSome (D.left desk.old from) (λ rest. rest ≡ []) }
     ensures stays { OnErr result (D.left desk.new from ≡ D.left desk.old from) }
     ensures failed { OnErr result (Rose (D.read_faults desk.old from) (D.read_faults desk.new from)) }
-    ensures only { OnlyReads from (D.left desk.old) (D.left desk.new) (D.sent desk.old) (D.sent desk.new) (D.read_faults desk.old) (D.read_faults desk.new) (D.write_faults desk.old) (D.write_faults desk.new) }
+    ensures only { OnlyReads from
+        (D.left desk.old) (D.left desk.new) (D.sent desk.old) (D.sent desk.new)
+        (D.read_faults desk.old) (D.read_faults desk.new)
+        (D.write_faults desk.old) (D.write_faults desk.new) }
 {
     desk.read(from, &mut buffer[end..])
 }

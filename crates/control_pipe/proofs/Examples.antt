@@ -1,11 +1,13 @@
 -- The definitions at work on small sessions, each computed.
-use Rattle.std.specs.Prelude.{◌≡◌, ℕ, true, false, List, [], ◌∷◌, Some, refl}
+use Rattle.std.specs.Prelude.{◌≡◌, ℕ, Bool, true, false, List, [], ◌∷◌, Some, refl}
 use Rattle.psd_base.specs.Setup.{setup_of}
 use Rattle.psd_base.specs.declared.act.Act.{Act}
 use Rattle.psd_base.specs.declared.act.Act.TheVariants as act
 use Rattle.psd_base.specs.declared.act.Answer.TheVariants as answer
 use Rattle.control_pipe.specs.Requests.{no_offer}
-use Rattle.control_pipe.specs.Control.{ControlAct, control_answer}
+use Rattle.control_pipe.specs.declared.reaction.Effect.{Effect}
+use Rattle.control_pipe.specs.declared.reaction.Effect.TheVariants as effect
+use Rattle.control_pipe.specs.Control.{ControlAct, control_answer, control_effect, control_function}
 
 abbrev device : List ℕ
 device = 0x12 ∷ 1 ∷ 0 ∷ 2 ∷ 0 ∷ 0 ∷ 0 ∷ 0x40 ∷ 0xfe ∷ 0xff ∷ 1 ∷ 0 ∷ 0 ∷ 1 ∷ 0 ∷ 0 ∷ 0 ∷ 1 ∷ []
@@ -87,3 +89,35 @@ status_of_writing_is_given = refl
 
 one_byte_more_is_refused : control_answer written (act.Out 0 0 true (4 ∷ [])) ≡ answer.Stall
 one_byte_more_is_refused = refl
+
+-- what completed requests tell the device
+abbrev asked_for : List ℕ → List ControlAct
+asked_for bytes = taken (act.Setup 0 (setup_of bytes)) ∷ configured
+
+abbrev told : List ControlAct → Bool → Effect
+told past acked = control_effect past (taken (act.In 0 0 acked))
+
+reset_is_told : control_effect written (taken act.Reset) ≡ effect.Reset
+reset_is_told = refl
+
+configuration_is_told : told (asked_for (0 ∷ 9 ∷ 1 ∷ 0 ∷ 0 ∷ 0 ∷ 0 ∷ 0 ∷ [])) true ≡ effect.Configured
+configuration_is_told = refl
+
+nothing_is_told_before_the_end : told (asked_for (0 ∷ 9 ∷ 1 ∷ 0 ∷ 0 ∷ 0 ∷ 0 ∷ 0 ∷ [])) false ≡ effect.Nothing
+nothing_is_told_before_the_end = refl
+
+end_of_a_halt_is_told : told (asked_for (2 ∷ 1 ∷ 0 ∷ 0 ∷ 0x82 ∷ 0 ∷ 0 ∷ 0 ∷ [])) true ≡ effect.Restart 2
+end_of_a_halt_is_told = refl
+
+halt_is_not_told : told (asked_for (2 ∷ 3 ∷ 0 ∷ 0 ∷ 0x82 ∷ 0 ∷ 0 ∷ 0 ∷ [])) true ≡ effect.Nothing
+halt_is_not_told = refl
+
+alternate_setting_is_told : told (asked_for (1 ∷ 0x0b ∷ 0 ∷ 0 ∷ 1 ∷ 0 ∷ 0 ∷ 0 ∷ [])) true ≡ effect.Restart 2
+alternate_setting_is_told = refl
+
+-- a function that keeps the bytes it was sent
+class_request_is_carried_out : control_function (λ device tick setup bytes. bytes) written 7 (act.In 0 0 true) [] ≡ 1 ∷ 2 ∷ 3 ∷ []
+class_request_is_carried_out = refl
+
+not_carried_out_before_the_end : control_function (λ device tick setup bytes. bytes) written 7 (act.In 0 0 false) [] ≡ []
+not_carried_out_before_the_end = refl

@@ -337,7 +337,7 @@ module _ {D : Type 0} where
     address = ap (λ (r : Registers). r.address) registers;
     configuration = ap (λ (r : Registers). r.configuration) registers;
     halts = λ endpoint. ap (λ (r : Registers). halted_at r endpoint) registers ∙ halts_of endpoint past;
-    progress = progress;
+    progress_is = progress;
   }
 
   registers_standing : (pipe : PipeValue D) (past : List ControlAct) → PipeStands pipe past → pipe.registers ≡ registers_of (reading_of past).completed
@@ -348,7 +348,7 @@ module _ {D : Type 0} where
 
   module _ (pipe : PipeValue D) (past : List ControlAct) (stands : PipeStands pipe past) where
     at_past : {V : Type 0} (f : Registers → Progress → V) → f pipe.registers pipe.progress ≡ f (registers_of (reading_of past).completed) (progress_of (reading_of past).transfer)
-    at_past f = ap (λ (r : Registers). f r pipe.progress) (registers_standing pipe past stands) ∙ ap (λ (p : Progress). f (registers_of (reading_of past).completed) p) stands.progress
+    at_past f = ap (λ (r : Registers). f r pipe.progress) (registers_standing pipe past stands) ∙ ap (λ (p : Progress). f (registers_of (reading_of past).completed) p) stands.progress_is
 
     pub stands_after : (after : PipeValue D) (act : Act) (offer : Offer) → after.registers ≡ registers_at pipe.registers pipe.progress act
         → after.progress ≡ progress_at pipe.registers pipe.progress offer act → PipeStands after (moment act offer ∷ past)

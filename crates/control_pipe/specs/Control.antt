@@ -1,5 +1,5 @@
 -- What the control endpoint of an emulated device answers, told by the history of the acts there. A history is newest first.
-use Rattle.std.specs.Prelude.{◌≡◌, ℕ, ◌+◌, ◌-◌, Bool, true, false, ◌==◌, List, [], ◌∷◌, Option, Some, None, if◌then◌else◌}
+use Rattle.std.specs.Prelude.{ℕ, ◌+◌, ◌-◌, Bool, true, false, ◌==◌, List, [], ◌∷◌, Option, Some, None, if◌then◌else◌}
 use Rattle.psd_base.specs.declared.setup.Setup.{Setup}
 use Rattle.psd_base.specs.declared.act.Act.{Act}
 use Rattle.psd_base.specs.declared.act.Act.TheVariants as act
@@ -32,11 +32,11 @@ abbrev pub moment_of : (Setup → Option (List ℕ)) → (Setup → Option (List
 moment_of descriptor class_input takes act = record { act = act; offer = offer_at descriptor class_input takes act }
 
 -- whether an act is a bus reset or a transaction at endpoint 0
-abbrev pub IsControlAct : Act → Type 0
-IsControlAct act.Reset = Unit {0}
-IsControlAct (act.Setup address setup) = Unit {0}
-IsControlAct (act.Out address endpoint toggle bytes) = endpoint ≡ 0
-IsControlAct (act.In address endpoint acked) = endpoint ≡ 0
+abbrev pub is_control_act : Act → Bool
+is_control_act act.Reset = true
+is_control_act (act.Setup address setup) = true
+is_control_act (act.Out address endpoint toggle bytes) = endpoint == 0
+is_control_act (act.In address endpoint acked) = endpoint == 0
 
 -- what a history comes to: the requests that were completed since the last bus reset, newest first, and the last transfer
 pub record Reading : Type 0 where

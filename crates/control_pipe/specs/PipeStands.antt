@@ -40,9 +40,13 @@ progress_of None = Refusing
 progress_of (Some transfer) =
     if is_some transfer.due && all_fit transfer transfer.acts then progress_of_form (form_of transfer.setup) transfer else Refusing
 
--- a pipe stands for a history of acts, newest first, where what it keeps is what the history tells
-pub record PipeStands {D : Type 0} (pipe : PipeValue D) (past : List ControlAct) : Type 0 where
-  pub address : pipe.registers.address ≡ address_after past
-  pub configuration : pipe.registers.configuration ≡ configuration_after past
-  pub halts : (endpoint : ℕ) → halted_at pipe.registers endpoint ≡ is_halted_after endpoint past
-  pub progress : pipe.progress ≡ progress_of (reading_of past).transfer
+-- registers and progress stand for a history of acts, newest first, where they are what the history tells
+pub record ControlStands (registers : Registers) (progress : Progress) (past : List ControlAct) : Type 0 where
+  pub address : registers.address ≡ address_after past
+  pub configuration : registers.configuration ≡ configuration_after past
+  pub halts : (endpoint : ℕ) → halted_at registers endpoint ≡ is_halted_after endpoint past
+  pub progress_is : progress ≡ progress_of (reading_of past).transfer
+
+-- a pipe stands for a history whatever its function is, which may be changed from outside
+abbrev pub PipeStands : {D : Type 0} → PipeValue D → List ControlAct → Type 0
+PipeStands pipe past = ControlStands pipe.registers pipe.progress past

@@ -1,4 +1,4 @@
--- The exact step of a pipe at each act.
+-- The exact step of a pipe at each act, in terms of its registers and of how far the last transfer is.
 use Rattle.std.specs.Prelude.{ℕ, ◌&&◌, ◌==◌, List, [], Option, Some, None, if◌then◌else◌}
 use Rattle.psd_base.specs.declared.setup.Setup.{Setup}
 use Rattle.psd_base.specs.declared.act.Act.{Act}
@@ -66,18 +66,21 @@ abbrev pub completed_function : {D : Type 0} → (D → ℕ → Setup → List �
 completed_function after_class tick None device = device
 completed_function after_class tick (Some done) device = request_function (after_class device tick done.0) (request_of done.0) device done.1
 
+-- the registers after an act
 abbrev pub registers_at : Registers → Progress → Act → Registers
 registers_at registers progress act.Reset = reset_registers
 registers_at registers progress (act.Setup address setup) = registers
 registers_at registers progress (act.Out address endpoint toggle bytes) = registers
 registers_at registers progress (act.In address endpoint acked) = completed_registers (completed_by registers progress (act.In address endpoint acked)) registers
 
+-- what an act completes, as the device is told
 abbrev pub effect_at : Registers → Progress → Act → Effect
 effect_at registers progress act.Reset = effect.Reset
 effect_at registers progress (act.Setup address setup) = effect.Nothing
 effect_at registers progress (act.Out address endpoint toggle bytes) = effect.Nothing
 effect_at registers progress (act.In address endpoint acked) = completed_effect (completed_by registers progress (act.In address endpoint acked))
 
+-- how far the last transfer is after an act
 abbrev pub progress_at : Registers → Progress → Offer → Act → Progress
 progress_at registers progress offer act.Reset = Refusing
 progress_at registers progress offer (act.Setup address setup) =
@@ -85,6 +88,7 @@ progress_at registers progress offer (act.Setup address setup) =
 progress_at registers progress offer (act.Out address endpoint toggle bytes) = if address == registers.address then after_out toggle bytes progress else progress
 progress_at registers progress offer (act.In address endpoint acked) = if address == registers.address then after_in acked progress else progress
 
+-- what an act is answered
 abbrev pub answer_at : Registers → Progress → Act → Answer
 answer_at registers progress act.Reset = answer.Silent
 answer_at registers progress (act.Setup address setup) = if address == registers.address then answer.Ack else answer.Silent

@@ -7,6 +7,7 @@ use Rattle.psd_base.specs.declared.packet.TheConstants.{PACKET_SIZE}
 use Rattle.control_pipe.specs.Requests.{when}
 use Rattle.control_pipe.specs.Transfer.{Form, Reading, Writing, NoData, form_of, packets_of, same_toggle}
 
+-- how far a transfer is
 pub data Progress : Type 0 where
   -- all is answered STALL: no setup since the bus reset, a request that isn't supported, or a transfer that is over
   Refusing : Progress
@@ -17,6 +18,7 @@ pub data Progress : Type 0 where
   DataOut : Setup → List ℕ → Bool → Progress
   StatusIn : Setup → Progress
 
+-- the stage in which a transfer begins whose data to the host are these, if it has any
 abbrev pub first_stage : Form → Setup → List ℕ → Progress
 first_stage Reading setup bytes = DataIn bytes PACKET_SIZE (packets_of (length bytes) setup.length PACKET_SIZE) 0
 first_stage Writing setup bytes = DataOut setup [] true
@@ -27,6 +29,7 @@ abbrev pub begun_progress : Setup → Option (List ℕ) → Progress
 begun_progress setup None = Refusing
 begun_progress setup (Some due) = first_stage (form_of setup) setup (take setup.length due)
 
+-- an IN: what it is answered, and how far the transfer is then
 abbrev pub in_answer : Progress → Answer
 in_answer Refusing = answer.Stall
 in_answer (DataIn bytes maximum count sent) = answer.Data (sent % 2 == 0) (take maximum (drop (sent * maximum) bytes))
@@ -58,6 +61,7 @@ is_status_out toggle packet = toggle && length packet == 0
 abbrev pub is_room_for : List ℕ → List ℕ → ℕ → Bool
 is_room_for packet bytes asked = nat_lt (length bytes) asked && nat_le (length bytes + length packet) asked
 
+-- an OUT: what it is answered, and how far the transfer is then
 abbrev pub out_answer : Bool → List ℕ → Progress → Answer
 out_answer toggle packet Refusing = answer.Stall
 out_answer toggle packet (DataIn bytes maximum count sent) = if is_status_out toggle packet then answer.Ack else answer.Stall

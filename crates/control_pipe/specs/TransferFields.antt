@@ -6,6 +6,7 @@ use Rattle.control_pipe.specs.declared.transfer.Stage.{Stage}
 use Rattle.control_pipe.specs.declared.transfer.Stage.TheVariants as stage
 use Rattle.control_pipe.specs.Progress.{Progress, Refusing, DataIn, StatusOut, DataOut, StatusIn}
 
+-- how far a transfer is that has these fields
 abbrev pub progress_in : Stage → Setup → List ℕ → Progress
 progress_in stage.Refusing setup bytes = Refusing
 progress_in (stage.DataIn sent count) setup bytes = DataIn bytes PACKET_SIZE count sent

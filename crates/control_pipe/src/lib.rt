@@ -11,3 +11,6 @@ mod transfer;
 pub use function::Function;
 pub use pipe::Pipe;
 pub use reaction::{Effect, Reaction};
+
+#[cfg(test)]
+mod tests;

@@ -1,9 +1,9 @@
 //! The control endpoint of an emulated device.
-ghost use Rattle.std.specs.Prelude.{◌≡◌, ◌≤◌, ℕ, List, [], ◌∷◌, ◌==◌, length, None, if◌then◌else◌};
+ghost use Rattle.std.specs.Prelude.{IsTrue, ◌≡◌, ◌≤◌, ℕ, List, [], ◌∷◌, ◌==◌, length, None, if◌then◌else◌};
 ghost use Rattle.control_pipe.specs.PipeStep.{request_function, request_registers, request_effect};
 ghost use Rattle.psd_base.specs.declared.packet.TheConstants.{PACKET_SIZE};
 ghost use Rattle.std.specs.Borrow.{sem};
-ghost use Rattle.control_pipe.specs.Control.{ControlAct, IsControlAct, offer_for, offer_at, moment_of, control_answer, control_effect, control_function, address_after, is_configured_after, is_halted_after};
+ghost use Rattle.control_pipe.specs.Control.{ControlAct, is_control_act, offer_for, offer_at, moment_of, control_answer, control_effect, control_function, address_after, is_configured_after, is_halted_after};
 ghost use Rattle.control_pipe.specs.Decoding.{request_of};
 ghost use Rattle.control_pipe.specs.Progress.{Refusing, begun_progress, after_in, in_answer, completion};
 ghost use Rattle.control_pipe.specs.Registers.{is_configured, halted_at, reset_registers};
@@ -52,15 +52,24 @@ impl<F: Function> Pipe<F> {
         }
     }
 
-    /// Takes an act at endpoint 0, or a bus reset, at this tick, and gives what it is answered and what it completed.
+    /// Takes a bus reset or a transaction at endpoint 0 (USB 2.0, 8.5.3), at this tick. Gives what the act is answered
+    /// and what it completed.
+    ///
+    /// The promises hold for each history for which the pipe stood before the act.
     pub fn act(&mut self, tick: Tick, act: &Act) -> Reaction
-        requires { IsControlAct act.now }
+        requires { IsTrue (is_control_act act.now) }
         ensures stands { (past : List ControlAct) → PipeStands self.old past
-            → PipeStands self.new (moment_of (F.descriptor_of self.old.function) (F.class_input_of self.old.function) F.takes_class act.now ∷ past) }
-        ensures answer { (past : List ControlAct) → PipeStands self.old past → result.answer ≡ control_answer past act.now }
+            → PipeStands self.new (moment_of (F.descriptor_of self.old.function)
+            (F.class_input_of self.old.function) F.takes_class act.now ∷ past) }
+        ensures answer { (past : List ControlAct) → PipeStands self.old past
+            → result.answer ≡ control_answer past act.now }
         ensures effect { (past : List ControlAct) → PipeStands self.old past
-            → result.effect ≡ control_effect past (moment_of (F.descriptor_of self.old.function) (F.class_input_of self.old.function) F.takes_class act.now) }
-        ensures function { (past : List ControlAct) → PipeStands self.old past → self.new.function ≡ control_function F.after_class past tick act.now self.old.function }
+            → result.effect ≡ control_effect past (moment_of (F.descriptor_of self.old.function)
+            (F.class_input_of self.old.function) F.takes_class act.now) }
+
+        // A class request is carried out once, at the act that completes it, and nothing else changes the function.
+        ensures function { (past : List ControlAct) → PipeStands self.old past
+            → self.new.function ≡ control_function F.after_class past tick act.now self.old.function }
     {
         self.step(tick, act)
     }
@@ -101,11 +110,13 @@ impl<F: Function> Pipe<F> {
         &mut self.function
     }
 
-    /// Takes an act, with the exact step.
+    /// Takes an act. Its contract is the exact step, from which `act` promises what holds over all histories.
     fn step(&mut self, tick: Tick, act: &Act) -> Reaction
         ensures registers { self.new.registers ≡ registers_at self.old.registers self.old.progress act.now }
-        ensures progress { self.new.progress ≡ progress_at self.old.registers self.old.progress (offer_at (F.descriptor_of self.old.function) (F.class_input_of self.old.function) F.takes_class act.now) act.now }
-        ensures function { self.new.function ≡ completed_function F.after_class tick (completed_by self.old.registers self.old.progress act.now) self.old.function }
+        ensures progress { self.new.progress ≡ progress_at self.old.registers self.old.progress
+            (offer_at (F.descriptor_of self.old.function) (F.class_input_of self.old.function) F.takes_class act.now) act.now }
+        ensures function { self.new.function ≡ completed_function F.after_class tick
+            (completed_by self.old.registers self.old.progress act.now) self.old.function }
         ensures answer { result.answer ≡ answer_at self.old.registers self.old.progress act.now }
         ensures effect { result.effect ≡ effect_at self.old.registers self.old.progress act.now }
     {
@@ -123,9 +134,9 @@ impl<F: Function> Pipe<F> {
             }
             Act::Out {
                 address,
-                endpoint: _,
                 toggle,
                 bytes,
+                ..
             } => {
                 if *address != self.registers.address {
                     return silence();
@@ -135,11 +146,7 @@ impl<F: Function> Pipe<F> {
                     effect: Effect::Nothing,
                 }
             }
-            Act::In {
-                address,
-                endpoint: _,
-                acked,
-            } => {
+            Act::In { address, acked, .. } => {
                 if *address != self.registers.address {
                     return silence();
                 }
@@ -166,7 +173,9 @@ impl<F: Function> Pipe<F> {
 
     /// Takes up the request of a setup.
     fn begin(&mut self, setup: &Setup)
-        ensures progress { self.new.progress ≡ begun_progress setup.now (due_for self.old.registers (offer_for (F.descriptor_of self.old.function) (F.class_input_of self.old.function) F.takes_class setup.now) (request_of setup.now)) }
+        ensures progress { self.new.progress ≡ begun_progress setup.now (due_for self.old.registers
+            (offer_for (F.descriptor_of self.old.function) (F.class_input_of self.old.function) F.takes_class setup.now)
+            (request_of setup.now)) }
         ensures registers { self.new.registers ≡ self.old.registers }
         ensures function { self.new.function ≡ self.old.function }
     {
@@ -194,7 +203,8 @@ impl<F: Function> Pipe<F> {
     /// Takes up a class request that reads.
     fn begin_class_in(&mut self, setup: &Setup)
         requires reads { 128 ≤ setup.now.kind }
-        ensures progress { self.new.progress ≡ begun_progress setup.now (if is_configured self.old.registers then F.class_input_of self.old.function setup.now else None) }
+        ensures progress { self.new.progress ≡ begun_progress setup.now
+            (if is_configured self.old.registers then F.class_input_of self.old.function setup.now else None) }
         ensures registers { self.new.registers ≡ self.old.registers }
         ensures function { self.new.function ≡ self.old.function }
     {
@@ -211,8 +221,10 @@ impl<F: Function> Pipe<F> {
     /// Takes an IN at the device's address.
     fn take_in(&mut self, tick: Tick, acked: bool) -> Reaction
         ensures progress { self.new.progress ≡ after_in acked self.old.progress }
-        ensures registers { self.new.registers ≡ completed_registers (if acked then completion self.old.progress else None) self.old.registers }
-        ensures function { self.new.function ≡ completed_function F.after_class tick (if acked then completion self.old.progress else None) self.old.function }
+        ensures registers { self.new.registers
+            ≡ completed_registers (if acked then completion self.old.progress else None) self.old.registers }
+        ensures function { self.new.function ≡ completed_function F.after_class tick
+            (if acked then completion self.old.progress else None) self.old.function }
         ensures answer { result.answer ≡ in_answer self.old.progress }
         ensures effect { result.effect ≡ completed_effect (if acked then completion self.old.progress else None) }
     {
@@ -229,7 +241,8 @@ impl<F: Function> Pipe<F> {
     fn complete(&mut self, tick: Tick) -> Effect
         ensures progress { self.new.progress ≡ self.old.progress }
         ensures registers { self.new.registers ≡ completed_registers (completion self.old.progress) self.old.registers }
-        ensures function { self.new.function ≡ completed_function F.after_class tick (completion self.old.progress) self.old.function }
+        ensures function { self.new.function
+            ≡ completed_function F.after_class tick (completion self.old.progress) self.old.function }
         ensures effect { result ≡ completed_effect (completion self.old.progress) }
     {
         match self.transfer.completed() {
@@ -260,7 +273,8 @@ fn carry_out<F: Function>(
     requires whole { length done.now.bytes.now ≡ done.now.setup.length }
     requires fits { length done.now.bytes.now ≤ PACKET_SIZE }
     ensures registers { registers.new ≡ request_registers (request_of done.now.setup) registers.old }
-    ensures function { function.new ≡ request_function (F.after_class function.old tick done.now.setup) (request_of done.now.setup) function.old done.now.bytes.now }
+    ensures function { function.new ≡ request_function (F.after_class function.old tick done.now.setup)
+        (request_of done.now.setup) function.old done.now.bytes.now }
     ensures effect { result ≡ request_effect (request_of done.now.setup) }
 {
     match Request::of(&done.setup) {

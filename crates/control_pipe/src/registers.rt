@@ -18,7 +18,7 @@ const HALTED_STATUS: [u8; 2] = [1, 0];
 const ALTERNATE_SETTING: [u8; 1] = [0];
 
 /// The registers of an emulated device with the interrupt endpoints 1 and 2.
-#[derive(Clone, Copy, Debug, PartialEq, Eq)]
+#[derive(Clone, Copy, Debug)]
 pub(crate) struct Registers {
     pub(crate) address: u8,
     pub(crate) configuration: u8,

@@ -5,6 +5,24 @@ ghost use Rattle.control_pipe.specs.Decoding.{request_of, endpoint_request, is_o
 
 use psd_base::setup::Setup;
 
+// The kinds of request: who is asked, and whether the data go to the host (USB 2.0, table 9-2).
+const TO_DEVICE: u8 = 0x00;
+
+const TO_INTERFACE: u8 = 0x01;
+
+const TO_ENDPOINT: u8 = 0x02;
+
+const FROM_DEVICE: u8 = 0x80;
+
+const FROM_INTERFACE: u8 = 0x81;
+
+const FROM_ENDPOINT: u8 = 0x82;
+
+const CLASS_TO_INTERFACE: u8 = 0x21;
+
+const CLASS_FROM_INTERFACE: u8 = 0xa1;
+
+// The standard requests (USB 2.0, table 9-4).
 const GET_STATUS: u8 = 0x00;
 
 const CLEAR_FEATURE: u8 = 0x01;
@@ -23,8 +41,17 @@ const GET_INTERFACE: u8 = 0x0a;
 
 const SET_INTERFACE: u8 = 0x0b;
 
+/// The least address that isn't one.
+const ADDRESSES: u16 = 128;
+
+/// The configurations are 0, in which the device isn't configured, and 1.
+const CONFIGURATIONS: u16 = 2;
+
+/// The interfaces are 0, which has endpoint 1, and 1, which has endpoint 2.
+const INTERFACES: u16 = 2;
+
 /// A request whose fields are right.
-#[derive(Clone, Copy, Debug, PartialEq, Eq)]
+#[derive(Clone, Copy, Debug)]
 pub(crate) enum Request {
     /// A request that every device has, beside GET_DESCRIPTOR.
     Standard(Standard),
@@ -36,8 +63,8 @@ pub(crate) enum Request {
     ClassOut,
 }
 
-/// A standard request beside GET_DESCRIPTOR. An endpoint is given by its number, 1 or 2.
-#[derive(Clone, Copy, Debug, PartialEq, Eq)]
+/// A standard request beside GET_DESCRIPTOR. Endpoints are given by their numbers, 1 and 2.
+#[derive(Clone, Copy, Debug)]
 pub(crate) enum Standard {
     DeviceStatus,
     InterfaceStatus,
@@ -50,7 +77,7 @@ pub(crate) enum Standard {
     Configuration,
     SetConfiguration(u8),
     Interface,
-    /// SET_INTERFACE of the interface whose endpoint this is.
+    /// SET_INTERFACE of the interface that has this endpoint.
     SetInterface(u8),
 }
 
@@ -60,45 +87,44 @@ impl Request {
         ensures { result ≡ request_of setup.now }
     {
         match (setup.kind, setup.request) {
-            (0x80, GET_STATUS) => device_request(setup, Standard::DeviceStatus),
-            (0x81, GET_STATUS) => interface_request(setup, Standard::InterfaceStatus),
-            (0x82, GET_STATUS) => endpoint_status(setup),
-            (0x02, CLEAR_FEATURE) => clear_halt(setup),
-            (0x02, SET_FEATURE) => set_halt(setup),
-            (0x00, SET_ADDRESS) => set_address(setup),
-            (0x80, GET_DESCRIPTOR) => Some(Request::Descriptor),
-            (0x81, GET_DESCRIPTOR) => Some(Request::Descriptor),
-            (0x80, GET_CONFIGURATION) => device_request(setup, Standard::Configuration),
-            (0x00, SET_CONFIGURATION) => set_configuration(setup),
-            (0x81, GET_INTERFACE) => interface_request(setup, Standard::Interface),
-            (0x01, SET_INTERFACE) => set_interface(setup),
-            (0xa1, _) => Some(Request::ClassIn),
-            (0x21, _) => Some(Request::ClassOut),
+            (FROM_DEVICE, GET_STATUS) => of_device(setup, Standard::DeviceStatus),
+            (FROM_INTERFACE, GET_STATUS) => of_interface(setup, Standard::InterfaceStatus),
+            (FROM_ENDPOINT, GET_STATUS) => endpoint_status(setup),
+            (TO_ENDPOINT, CLEAR_FEATURE) => {
+                halt_endpoint(setup).map(|endpoint| Request::Standard(Standard::ClearHalt(
+                    endpoint,
+                )))
+            }
+            (TO_ENDPOINT, SET_FEATURE) => {
+                halt_endpoint(setup).map(|endpoint| Request::Standard(Standard::SetHalt(endpoint)))
+            }
+            (TO_DEVICE, SET_ADDRESS) => set_address(setup),
+            (FROM_DEVICE, GET_DESCRIPTOR) => Some(Request::Descriptor),
+            (FROM_INTERFACE, GET_DESCRIPTOR) => Some(Request::Descriptor),
+            (FROM_DEVICE, GET_CONFIGURATION) => of_device(setup, Standard::Configuration),
+            (TO_DEVICE, SET_CONFIGURATION) => set_configuration(setup),
+            (FROM_INTERFACE, GET_INTERFACE) => of_interface(setup, Standard::Interface),
+            (TO_INTERFACE, SET_INTERFACE) => set_interface(setup),
+            (CLASS_FROM_INTERFACE, _) => Some(Request::ClassIn),
+            (CLASS_TO_INTERFACE, _) => Some(Request::ClassOut),
             _ => None,
         }
     }
 }
 
-/// A request that reads of the device.
-fn device_request(setup: &Setup, request: Standard) -> Option<Request>
+/// A request that reads something of the device.
+fn of_device(setup: &Setup, request: Standard) -> Option<Request>
     ensures { result ≡ when (setup.now.value == 0 && setup.now.index == 0) (Request.Standard request) }
 {
-    if setup.value == 0 && setup.index == 0 {
-        Some(Request::Standard(request))
-    } else {
-        None
-    }
+    (setup.value == 0 && setup.index == 0).then_some(Request::Standard(request))
 }
 
-/// A request that reads of interface 0 or 1.
-fn interface_request(setup: &Setup, request: Standard) -> Option<Request>
-    ensures { result ≡ when (setup.now.value == 0 && names_interface setup.now.index) (Request.Standard request) }
+/// A request that reads something of an interface.
+fn of_interface(setup: &Setup, request: Standard) -> Option<Request>
+    ensures { result
+        ≡ when (setup.now.value == 0 && names_interface setup.now.index) (Request.Standard request) }
 {
-    if setup.value == 0 && setup.index < 2 {
-        Some(Request::Standard(request))
-    } else {
-        None
-    }
+    (setup.value == 0 && setup.index < INTERFACES).then_some(Request::Standard(request))
 }
 
 /// GET_STATUS of endpoint 0, in either direction, or of an interrupt endpoint.
@@ -117,7 +143,7 @@ fn endpoint_status(setup: &Setup) -> Option<Request>
 }
 
 /// The interrupt endpoint whose halt CLEAR_FEATURE or SET_FEATURE is of.
-fn endpoint_of_halt(setup: &Setup) -> Option<u8>
+fn halt_endpoint(setup: &Setup) -> Option<u8>
     ensures { result ≡ when (is_of_halt setup.now) (setup.now.index - 0x80) }
 {
     if setup.value != 0 || setup.length != 0 {
@@ -130,28 +156,11 @@ fn endpoint_of_halt(setup: &Setup) -> Option<u8>
     }
 }
 
-fn clear_halt(setup: &Setup) -> Option<Request>
-    ensures { result ≡ when (is_of_halt setup.now) (Request.Standard (Standard.ClearHalt (setup.now.index - 0x80))) }
-{
-    match endpoint_of_halt(setup) {
-        Some(endpoint) => Some(Request::Standard(Standard::ClearHalt(endpoint))),
-        None => None,
-    }
-}
-
-fn set_halt(setup: &Setup) -> Option<Request>
-    ensures { result ≡ when (is_of_halt setup.now) (Request.Standard (Standard.SetHalt (setup.now.index - 0x80))) }
-{
-    match endpoint_of_halt(setup) {
-        Some(endpoint) => Some(Request::Standard(Standard::SetHalt(endpoint))),
-        None => None,
-    }
-}
-
 fn set_address(setup: &Setup) -> Option<Request>
-    ensures { result ≡ when (nat_lt setup.now.value 128 && setup.now.index == 0 && setup.now.length == 0) (Request.Standard (Standard.SetAddress setup.now.value)) }
+    ensures { result ≡ when (nat_lt setup.now.value 128 && setup.now.index == 0 && setup.now.length == 0)
+        (Request.Standard (Standard.SetAddress setup.now.value)) }
 {
-    if setup.value < 128 && setup.index == 0 && setup.length == 0 {
+    if setup.value < ADDRESSES && setup.index == 0 && setup.length == 0 {
         Some(Request::Standard(Standard::SetAddress(setup.value as u8)))
     } else {
         None
@@ -159,9 +168,10 @@ fn set_address(setup: &Setup) -> Option<Request>
 }
 
 fn set_configuration(setup: &Setup) -> Option<Request>
-    ensures { result ≡ when (nat_lt setup.now.value 2 && setup.now.index == 0 && setup.now.length == 0) (Request.Standard (Standard.SetConfiguration setup.now.value)) }
+    ensures { result ≡ when (nat_lt setup.now.value 2 && setup.now.index == 0 && setup.now.length == 0)
+        (Request.Standard (Standard.SetConfiguration setup.now.value)) }
 {
-    if setup.value < 2 && setup.index == 0 && setup.length == 0 {
+    if setup.value < CONFIGURATIONS && setup.index == 0 && setup.length == 0 {
         Some(Request::Standard(Standard::SetConfiguration(setup.value as u8)))
     } else {
         None
@@ -169,9 +179,11 @@ fn set_configuration(setup: &Setup) -> Option<Request>
 }
 
 fn set_interface(setup: &Setup) -> Option<Request>
-    ensures { result ≡ when (setup.now.value == 0 && names_interface setup.now.index && setup.now.length == 0) (Request.Standard (Standard.SetInterface (setup.now.index + 1))) }
+    ensures { result
+        ≡ when (setup.now.value == 0 && names_interface setup.now.index && setup.now.length == 0)
+        (Request.Standard (Standard.SetInterface (setup.now.index + 1))) }
 {
-    if setup.value == 0 && setup.index < 2 && setup.length == 0 {
+    if setup.value == 0 && setup.index < INTERFACES && setup.length == 0 {
         Some(Request::Standard(Standard::SetInterface(setup.index as u8 + 1)))
     } else {
         None

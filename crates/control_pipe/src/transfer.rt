@@ -10,7 +10,7 @@ use psd_base::setup::Setup;
 use std::marker::Model;
 
 /// The stages of a control transfer.
-#[derive(Clone, Copy, Debug, PartialEq, Eq)]
+#[derive(Clone, Copy, Debug)]
 pub(crate) enum Stage {
     /// All is answered STALL: no setup since the bus reset, a request that isn't supported, or a transfer that is over.
     Refusing,
@@ -29,7 +29,7 @@ pub(crate) enum Stage {
 pub(crate) struct Transfer {
     setup: Setup,
     stage: Stage,
-    bytes: ArrayVec<u8, 1024>,
+    bytes: ArrayVec<u8, BLOCK_SIZE>,
 }
 
 impl Model for Transfer {
@@ -170,7 +170,7 @@ impl Transfer {
         ensures after { self.new ≡ after_out toggle packet.now self.old }
     {
         match self.stage {
-            Stage::Refusing => Answer::Stall,
+            Stage::Refusing => self.stall(),
             Stage::DataIn { .. } => self.take_status(toggle, packet),
             Stage::StatusOut => self.take_status(toggle, packet),
             Stage::DataOut { toggle: next } => {

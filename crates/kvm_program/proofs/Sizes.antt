@@ -1,5 +1,5 @@
 -- The sizes of all transcripts as a list.
-use Rattle.std.proofs.Common.{◌≡◌, ℕ, suc, zero, ◌+◌, ◌<◌, List, [], ◌∷◌, length, map, slice_index, ap, subst, refl, arith}
+use Rattle.std.proofs.Common.{◌≡◌, ℕ, suc, zero, ◌+◌, ◌<◌, List, [], ◌∷◌, length, map, slice_index, subst, refl, arith}
 use Rattle.kvm_program.specs.Report.{numbers_from}
 
 -- a list is told by its elements

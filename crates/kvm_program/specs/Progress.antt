@@ -1,5 +1,5 @@
 -- How far a replay came, and what it leaves where it stops.
-use Rattle.std.specs.Prelude.{◌≡◌, ℕ, ◌+◌, ◌*◌, ◌≤◌, List, [], ◌∷◌, length, Option, Some, None, option_map, IfSome}
+use Rattle.std.specs.Prelude.{◌≡◌, ℕ, ◌*◌, ◌≤◌, List, [], length, Option, Some, None, option_map, IfSome}
 use Rattle.psd_base.specs.Port.{IsPort}
 use Rattle.psd_base.specs.History.{onto}
 use Rattle.psd_base.specs.Desk.{Rose, IsAppendedPart}

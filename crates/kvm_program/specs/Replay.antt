@@ -1,7 +1,6 @@
 -- What a replay promises.
-use Rattle.std.specs.Prelude.{◌≡◌, ◌≢◌, ℕ, ◌≤◌, List, Option, Some, None, IfSome, Result, Ok, Err}
+use Rattle.std.specs.Prelude.{◌≡◌, ◌≢◌, ◌⊎◌, ℕ, ◌≤◌, List, Option, Some, IfSome, Result, Ok, Err}
 use Rattle.psd_base.specs.Desk.{Rose, IsAppendedPart}
-use Rattle.psd_base.specs.Event.{Seen}
 use Rattle.psd_base.specs.declared.outlet.Input.{Input}
 use Rattle.psd_base.specs.declared.outlet.Input.TheVariants as input
 use Rattle.psd_base.specs.declared.outlet.Outlet.{Outlet}
@@ -10,9 +9,9 @@ use Rattle.psd_base.specs.declared.stop.Stop.{Stop}
 use Rattle.psd_base.specs.declared.stop.Stop.TheVariants.{Usage, Rules, Capture, Script, TooLong, ReadFault, WriteFault, OutOfMemory}
 use Rattle.psd_base.specs.declared.summary.Summary.{Summary}
 use Rattle.capture_reader.specs.Schedule.{Schedule}
+use Rattle.port_transcript.specs.StopLine.{stop_text}
 use Rattle.kvm_program.specs.Outlets.{Grew}
 use Rattle.kvm_program.specs.Progress.{WroteAtStop}
-use Rattle.kvm_program.specs.Report.{summary_of, report_text}
 
 -- A port gets all of its transcript, or a part of it, or nothing, by how the run ends.
 abbrev pub PortWritten : Result Summary Stop → List ℕ → Option (List ℕ) → Option (List ℕ) → Type 0
@@ -70,3 +69,22 @@ IsOpenFault before after why = (to : Outlet) × (why ≡ WriteFault to) × (to �
 -- no failure was counted
 abbrev pub NoneRose : {Place : Type 0} → (Place → ℕ) → (Place → ℕ) → Type 0
 NoneRose {Place} before after = (place : Place) → ¬ Rose (before place) (after place)
+
+-- the line of a stop was written to the faults, or a part of it where that write failed and its count rose
+abbrev pub FaultWritten : Stop → Option (List ℕ) → Option (List ℕ) → ℕ → ℕ → Type 0
+FaultWritten stop before after faults faults_after = Grew before after (stop_text stop) ⊎ (IsAppendedPart before after (stop_text stop) × Rose faults faults_after)
+
+-- a stop alone writes to the faults
+abbrev pub FaultsWritten : Result Summary Stop → Option (List ℕ) → Option (List ℕ) → ℕ → ℕ → Type 0
+FaultsWritten (Ok summary) before after faults faults_after = after ≡ before
+FaultsWritten (Err stop) before after faults faults_after = FaultWritten stop before after faults faults_after
+
+-- a run with its fault line: it reads the capture and writes to the ports, the report and the faults, and nothing else
+pub record OnlyReplaysAndTells (left left_after : Input → Option (List ℕ)) (sent sent_after : Outlet → Option (List ℕ))
+    (read_faults read_faults_after : Input → ℕ) (write_faults write_faults_after : Outlet → ℕ) : Type 0 where
+  pub console : sent_after outlet.Console ≡ sent outlet.Console
+  pub log : sent_after outlet.Log ≡ sent outlet.Log
+  pub rules : left_after input.Rules ≡ left input.Rules
+  pub script : left_after input.Script ≡ left input.Script
+  pub read_counts : (input : Input) → read_faults input ≤ read_faults_after input
+  pub write_counts : (other : Outlet) → write_faults other ≤ write_faults_after other

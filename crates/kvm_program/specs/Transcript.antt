@@ -1,11 +1,11 @@
 -- The text of a port's transcript.
-use Rattle.std.specs.Prelude.{ℕ, ◌==◌, List, [], ◌∷◌, ◌++◌, Option, Some, None, if◌then◌else◌}
+use Rattle.std.specs.Prelude.{ℕ, ◌==◌, List, [], Option, Some, None, if◌then◌else◌}
 use Rattle.std.specs.List.{flat_map}
 use Rattle.psd_base.specs.History.{onto}
 use Rattle.psd_base.specs.Event.{Seen}
 use Rattle.psd_base.specs.declared.line.Line.{Line}
 use Rattle.port_transcript.specs.PortLine.{line_text}
-use Rattle.switch_core.specs.View.{Item, view}
+use Rattle.switch_core.specs.View.{view}
 use Rattle.switch_core.specs.OnePort.{toy}
 
 -- the text of a list of lines

@@ -111,8 +111,8 @@ impl Server {
         if !reader.advance(desk)? {
             return Ok(false);
         }
-        let event = reader.event();
-        self.serve(desk, &event)?;
+        let event = reader.event_ref();
+        self.serve(desk, event)?;
         Ok(true)
     }
 

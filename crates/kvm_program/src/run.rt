@@ -8,7 +8,7 @@ ghost use Rattle.kvm_program.specs.Command.{words_of};
 ghost use Rattle.kvm_program.specs.Outlets.{OnlyWrites, Wrote};
 ghost use Rattle.psd_base.specs.Desk.{Rose};
 ghost use Rattle.kvm_program.specs.Progress.{Finished, IsFresh, OnlyServes, WroteAtStop};
-ghost use Rattle.kvm_program.specs.Replay.{PortWritten, ReportWritten, RunStops, OnlyReplays, NoneRose};
+ghost use Rattle.kvm_program.specs.Replay.{PortWritten, ReportWritten, RunStops, OnlyReplays, OnlyReplaysAndTells, NoneRose, FaultWritten, FaultsWritten};
 ghost use Rattle.kvm_program.specs.Report.{summary_of, report_text};
 ghost use Rattle.kvm_program.specs.Transcript.{transcript_of};
 
@@ -18,6 +18,7 @@ use crate::outlets::send;
 use crate::replay::Server;
 use crate::report::report;
 use capture_reader::Reader;
+use port_transcript::stop_line;
 use psd_base::desk::Desk;
 use psd_base::event::EVENTS_MAX;
 use psd_base::outlet::{Input, Outlet};
@@ -106,6 +107,26 @@ fn replay<D: Desk>(alloc: Global, desk: &mut D) -> Result<Summary, Stop>
     Ok(summary)
 }
 
+/// Does what the words say, and writes no fault line.
+fn obey<D: Desk>(alloc: Global, words: &Words, desk: &mut D) -> Result<Summary, Stop>
+    ensures ports { words.now ≡ words_of Command.Replay → IfSome (D.left desk.old Input.Capture) (λ capture. (port : ℕ) →
+        PortWritten result (transcript_of port (schedule EVENTS_MAX capture).events) (D.sent desk.old (Outlet.Port port)) (D.sent desk.new (Outlet.Port port))) }
+    ensures report { words.now ≡ words_of Command.Replay → IfSome (D.left desk.old Input.Capture) (λ capture.
+        ReportWritten result (report_text (summary_of (port_count capture) (schedule EVENTS_MAX capture).events)) (D.sent desk.old Outlet.Report) (D.sent desk.new Outlet.Report)) }
+    ensures ok { IfOk result (λ summary. IfSome (D.left desk.old Input.Capture) (λ capture.
+        ((schedule EVENTS_MAX capture).stop ≡ None) × (summary ≡ summary_of (port_count capture) (schedule EVENTS_MAX capture).events))) }
+    ensures stop { IfErr result (λ stop. RunStops stop (words.now ≢ words_of Command.Replay) (D.left desk.new Input.Capture ≡ D.left desk.old Input.Capture)
+        (option_map (schedule EVENTS_MAX) (D.left desk.old Input.Capture)) (D.read_faults desk.old) (D.read_faults desk.new) (D.write_faults desk.old) (D.write_faults desk.new)) }
+    ensures unknown { words.now ≢ words_of Command.Replay → (result ≡ Err Stop.Usage) × (desk.new ≡ desk.old) }
+    ensures others { OnlyReplays (D.left desk.old) (D.left desk.new) (D.sent desk.old) (D.sent desk.new)
+        (D.read_faults desk.old) (D.read_faults desk.new) (D.write_faults desk.old) (D.write_faults desk.new) }
+{
+    match Command::read(words) {
+        Some(Command::Replay) => replay(alloc, desk),
+        None => Err(Stop::Usage),
+    }
+}
+
 /// Does what the words of the command line say.
 ///
 /// `replay` serves the capture's events in their order, and writes each computer's transcript. Whatever capture is replayed, a
@@ -128,13 +149,30 @@ pub fn kvm<D: Desk>(alloc: Global, words: &Words, desk: &mut D) -> Result<Summar
     ensures complete { words.now ≡ words_of Command.Replay → IfSome (D.left desk.old Input.Capture) (λ capture. (schedule EVENTS_MAX capture).stop ≡ None →
         NoneRose (D.read_faults desk.old) (D.read_faults desk.new) → NoneRose (D.write_faults desk.old) (D.write_faults desk.new) → IsOk result ⊎ (result ≡ Err Stop.OutOfMemory)) }
 
-    // Words that are no command do nothing, and no run touches more than it names.
-    ensures unknown { words.now ≢ words_of Command.Replay → (result ≡ Err Stop.Usage) × (desk.new ≡ desk.old) }
-    ensures others { OnlyReplays (D.left desk.old) (D.left desk.new) (D.sent desk.old) (D.sent desk.new)
+    // A stop writes its line to the faults, whole unless that write fails too; without a stop nothing is written there.
+    ensures faults { FaultsWritten result (D.sent desk.old Outlet.Faults) (D.sent desk.new Outlet.Faults) (D.write_faults desk.old Outlet.Faults) (D.write_faults desk.new Outlet.Faults) }
+
+    // Words that are no command move nothing, and no run touches more than it names.
+    ensures unknown { words.now ≢ words_of Command.Replay → (result ≡ Err Stop.Usage) × ((input : Input) → D.left desk.new input ≡ D.left desk.old input)
+        × (D.sent desk.new Outlet.Report ≡ D.sent desk.old Outlet.Report) × ((port : ℕ) → D.sent desk.new (Outlet.Port port) ≡ D.sent desk.old (Outlet.Port port)) }
+    ensures others { OnlyReplaysAndTells (D.left desk.old) (D.left desk.new) (D.sent desk.old) (D.sent desk.new)
         (D.read_faults desk.old) (D.read_faults desk.new) (D.write_faults desk.old) (D.write_faults desk.new) }
 {
-    match Command::read(words) {
-        Some(Command::Replay) => replay(alloc, desk),
-        None => Err(Stop::Usage),
+    match obey(alloc, words, desk) {
+        Ok(summary) => Ok(summary),
+        Err(stop) => {
+            write_fault(desk, &stop);
+            Err(stop)
+        }
     }
+}
+
+/// Writes the line of a stop to the faults. Where that fails, the stop stays the answer.
+fn write_fault<D: Desk>(desk: &mut D, stop: &Stop)
+    ensures wrote { FaultWritten stop.now (D.sent desk.old Outlet.Faults) (D.sent desk.new Outlet.Faults) (D.write_faults desk.old Outlet.Faults) (D.write_faults desk.new Outlet.Faults) }
+    ensures others { OnlyWrites Outlet.Faults (D.left desk.old) (D.left desk.new) (D.sent desk.old) (D.sent desk.new)
+        (D.read_faults desk.old) (D.read_faults desk.new) (D.write_faults desk.old) (D.write_faults desk.new) }
+{
+    let line = stop_line(stop);
+    let _ = send(desk, &Outlet::Faults, line.as_slice());
 }

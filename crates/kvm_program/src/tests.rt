@@ -58,6 +58,23 @@ fn one_descriptor_is_read(rt: HostRuntime) -> Result<(), Fail> {
     Ok(())
 }
 
+/// Two ports and no events. Where an allocation fails, which a run of the tests can ask for, the answer is want of memory.
+#[test]
+fn want_of_memory_is_told(rt: HostRuntime) {
+    let made = MemoryDesk::new(rt.alloc(), &[], &DEVICE_DESCRIPTOR[..8], &[], ROOM);
+    if let Ok(mut desk) = made {
+        match replay(rt.alloc(), &mut desk) {
+            Ok(summary) => {
+                assert_eq!(rt;
+                    (summary.events, summary.ports, summary.bytes),
+                    (0, 2, [0; 8])
+                );
+            }
+            Err(stop) => assert_eq!(rt; stop, Stop::OutOfMemory),
+        }
+    }
+}
+
 #[test]
 fn a_failed_read_stops(rt: HostRuntime) -> Result<(), Fail> {
     let mut desk = desk(rt.alloc(), &DEVICE_DESCRIPTOR)?;
@@ -104,6 +121,10 @@ fn a_cut_record_stops_behind_the_whole_ones(rt: HostRuntime) -> Result<(), Fail>
     };
     assert_eq!(rt; replay(rt.alloc(), &mut desk), Err(stop));
     assert_eq!(rt; desk.sent(port(1)?), &TRANSCRIPT[..98]);
+    assert_eq!(rt;
+        desk.sent(Outlet::Faults),
+        b"capture 36 truncated\n".as_slice()
+    );
     Ok(())
 }
 
@@ -114,5 +135,16 @@ fn other_words_are_no_command(rt: HostRuntime) -> Result<(), Fail> {
     words.push("replay");
     words.push("now");
     assert_eq!(rt; kvm(rt.alloc(), &words, &mut desk), Err(Stop::Usage));
+    assert_eq!(rt; desk.sent(Outlet::Faults), b"not a command\n".as_slice());
+    Ok(())
+}
+
+/// Words that are no command write first of all their fault line.
+#[test]
+fn a_failed_fault_line_leaves_the_stop(rt: HostRuntime) -> Result<(), Fail> {
+    let mut desk = desk(rt.alloc(), &DEVICE_DESCRIPTOR)?;
+    desk.fail_write(1, 3)?;
+    assert_eq!(rt; kvm(rt.alloc(), &Words::new(), &mut desk), Err(Stop::Usage));
+    assert_eq!(rt; desk.sent(Outlet::Faults), b"not".as_slice());
     Ok(())
 }

@@ -3,6 +3,7 @@ pub mod Desk
 pub mod Event
 pub mod FaultCounts
 pub mod History
+pub mod KeySet
 pub mod MemoryDesk
 pub mod Places
 pub mod Port

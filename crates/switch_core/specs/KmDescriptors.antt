@@ -1,5 +1,5 @@
 -- Which descriptor of the emulated keyboard and mouse a setup asks for.
-use Rattle.std.specs.Prelude.{ℕ, ◌+◌, ◌≤◌, Bool, true, false, ◌&&◌, ◌==◌, List, length, Option, Some, None, IfSome, slice_range, if◌then◌else◌}
+use Rattle.std.specs.Prelude.{ℕ, ◌≤◌, Bool, true, false, ◌&&◌, ◌==◌, List, length, Option, Some, None, IfSome, slice_range, if◌then◌else◌}
 use Rattle.std.proofs.Common.{lit≤}
 use Rattle.psd_base.specs.declared.setup.Setup.{Setup}
 use Rattle.switch_core.specs.declared.km_descriptors.TheConstants.{DEVICE, CONFIGURATION, KEYBOARD_REPORT, MOUSE_REPORT}

@@ -1,6 +1,5 @@
 -- A switch with one port: what it answers to the port's own acts, found from the port's view alone. A view is newest first, a transcript is oldest first.
-use Rattle.std.specs.Prelude.{ℕ, Bool, true, false, ◌&&◌, ◌||◌, ◌==◌, nat_lt, nat_le, List, [], ◌∷◌, ◌++◌, if◌then◌else◌}
-use Rattle.psd_base.specs.declared.setup.Setup.{Setup}
+use Rattle.std.specs.Prelude.{ℕ, Bool, true, false, ◌&&◌, ◌||◌, ◌==◌, List, [], ◌∷◌, ◌++◌, if◌then◌else◌}
 use Rattle.psd_base.specs.declared.act.Act.{Act}
 use Rattle.psd_base.specs.declared.act.Act.TheVariants as act
 use Rattle.psd_base.specs.declared.act.Side.{Side}
@@ -8,10 +7,10 @@ use Rattle.psd_base.specs.declared.act.Side.TheVariants.{Km, Ua}
 use Rattle.psd_base.specs.declared.act.Answer.{Answer}
 use Rattle.psd_base.specs.declared.act.Answer.TheVariants as answer
 use Rattle.psd_base.specs.declared.line.Line.{Line}
-use Rattle.control_pipe.specs.Control.{ControlAct, moment_of, control_answer, address_after, is_configured_after, is_halted_after}
+use Rattle.control_pipe.specs.Control.{ControlAct, is_control_act, moment_of, control_answer, address_after, is_configured_after, is_halted_after}
 use Rattle.switch_core.specs.KmDescriptors.{km_descriptor}
 use Rattle.switch_core.specs.View.{Concern, Own, Wakes, Item}
-use Rattle.std.specs.Prelude.{Option, None}
+use Rattle.std.specs.Prelude.{None}
 
 -- whether the port answers: it woke
 abbrev pub is_live : List Item → Bool
@@ -21,20 +20,13 @@ is_live (item ∷ past) = with_concern item.concern (is_live past) where
   with_concern (Own side act) live = live
   with_concern Wakes live = true
 
--- whether an act is at the control endpoint: a bus reset, or a transaction at endpoint 0
-abbrev pub is_control : Act → Bool
-is_control act.Reset = true
-is_control (act.Setup address setup) = true
-is_control (act.Out address endpoint toggle bytes) = endpoint == 0
-is_control (act.In address endpoint acked) = endpoint == 0
-
 -- an act at the control endpoint of the keyboard and mouse, with the descriptor for its setup
 abbrev pub km_act : Act → ControlAct
 km_act act = moment_of km_descriptor (λ _. None) (λ _. false) act
 
 -- an act at the keyboard and mouse goes on with the acts at the control endpoint, if it is one of them
 abbrev pub with_km_act : Act → List ControlAct → List ControlAct
-with_km_act act acts = if is_control act then km_act act ∷ acts else acts
+with_km_act act acts = if is_control_act act then km_act act ∷ acts else acts
 
 -- the acts at the control endpoint of the keyboard and mouse since the port woke
 abbrev pub control_acts : List Item → List ControlAct
@@ -58,7 +50,7 @@ interrupt_answer acts (act.In address endpoint acked) =
 interrupt_answer acts _ = answer.Silent
 
 abbrev pub km_answer : List ControlAct → Act → Answer
-km_answer acts act = if is_control act then control_answer acts act else interrupt_answer acts act
+km_answer acts act = if is_control_act act then control_answer acts act else interrupt_answer acts act
 
 -- what an act at a connector is answered after a view. There is no token, so its connector is silent.
 abbrev pub live_answer : List Item → Side → Act → Answer

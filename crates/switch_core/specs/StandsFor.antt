@@ -1,5 +1,5 @@
 -- What the switch stands for: the history of the events that it served, newest first.
-use Rattle.std.specs.Prelude.{◌≡◌, ℕ, ◌+◌, ◌≤◌, List, [], ◌∷◌, Option, Some, None, slice_get, vec_len}
+use Rattle.std.specs.Prelude.{◌≡◌, ℕ, ◌+◌, ◌≤◌, List, Option, Some, None, slice_get, vec_len}
 use Rattle.psd_base.specs.Event.{Happening, TimePasses, PortActs, Seen}
 use Rattle.psd_base.specs.declared.line.Line.{Line}
 use Rattle.switch_core.specs.declared.port.Port.{Port}

@@ -1,5 +1,5 @@
 -- What concerns one port: its own acts, and the results of the self-test. Views and histories are newest first.
-use Rattle.std.specs.Prelude.{ℕ, Bool, true, false, ◌==◌, List, [], ◌∷◌, if◌then◌else◌}
+use Rattle.std.specs.Prelude.{ℕ, ◌==◌, List, [], ◌∷◌, if◌then◌else◌}
 use Rattle.psd_base.specs.declared.act.Act.{Act}
 use Rattle.psd_base.specs.declared.act.Side.{Side}
 use Rattle.psd_base.specs.Event.{Happening, TimePasses, PortActs, Seen}

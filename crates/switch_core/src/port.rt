@@ -1,9 +1,9 @@
 //! One port: the emulated keyboard and mouse of one computer.
 ghost use Rattle.std.specs.Prelude.{◌≡◌, List, [], ◌∷◌};
-ghost use Rattle.control_pipe.specs.Control.{ControlAct};
+ghost use Rattle.control_pipe.specs.Control.{ControlAct, is_control_act};
 ghost use Rattle.control_pipe.specs.PipeStands.{PipeStands};
 ghost use Rattle.switch_core.specs.View.{Item, Own, woken_view};
-ghost use Rattle.switch_core.specs.OnePort.{answer_to, is_control, interrupt_answer, has_interrupt_endpoint, km_answer, with_km_act};
+ghost use Rattle.switch_core.specs.OnePort.{answer_to, interrupt_answer, has_interrupt_endpoint, km_answer, with_km_act};
 
 use crate::km_descriptors::KmDescriptors;
 use control_pipe::pipe::Pipe;
@@ -55,7 +55,7 @@ fn km_answer_to(pipe: &mut Pipe<KmDescriptors>, tick: Tick, act: &Act) -> Answer
 
 /// Whether an act is a bus reset or a transaction at endpoint 0.
 fn is_at_control_endpoint(act: &Act) -> bool
-    ensures { result ≡ is_control act.now }
+    ensures { result ≡ is_control_act act.now }
 {
     match act {
         Act::Reset => true,

@@ -57,22 +57,22 @@ impl Switch {
         ensures served { self.new.served ≡ self.old.served + 1 }
         ensures ports { port_total self.new ≡ port_total self.old }
     {
-        turn.line = serve(&mut self.ports, event);
+        serve(&mut self.ports, event, &mut turn.line);
         self.served += 1;
     }
 }
 
-/// Serves one event, and gives the line of the port that acted, if one did.
-fn serve(ports: &mut [Port], event: &Event) -> Option<(PortId, Line)>
+/// Serves one event, and puts the line of the port that acted, if one did, where the turn has it.
+fn serve(ports: &mut [Port], event: &Event, line: &mut Option<(PortId, Line)>)
     requires known { NamesPortUpTo (length ports.old) (happening_of event.now.what) }
     ensures stands { (past : List Seen) → PortsStand ports.old past → PortsStand ports.new (seen event.now ∷ past) }
-    ensures line { (past : List Seen) → PortsStand ports.old past → result ≡ line_at (seen event.now) past }
+    ensures line { (past : List Seen) → PortsStand ports.old past → line.new ≡ line_at (seen event.now) past }
 {
     match &event.what {
-        What::Clock => None,
+        What::Clock => *line = None,
         What::Port(port, side, act) => {
-            let line = serve_act(ports, event.tick, *port, *side, act);
-            Some((*port, line))
+            let made = serve_act(ports, event.tick, *port, *side, act);
+            *line = Some((*port, made));
         }
     }
 }

@@ -1,5 +1,5 @@
 -- The lines so far and those that are left are the lines of all ports.
-use Rattle.std.proofs.Common.{◌≡◌, ℕ, ◌+◌, ◌*◌, ◌≤◌, ◌++◌, drop}
+use Rattle.std.proofs.Common.{◌≡◌, ◌+◌, ◌*◌, ◌≤◌, ◌++◌, drop}
 use Rattle.arrayvec.specs.ArrayVec.{array_vec_len}
 use Rattle.kvm_program.specs.Report.{counts_text}
 use Rattle.kvm_program.proofs.report.append_ports.Given as goal

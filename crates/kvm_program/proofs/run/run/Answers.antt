@@ -1,5 +1,5 @@
 -- The whole capture was served, or served and not reported.
-use Rattle.std.proofs.Common.{◌≡◌, ℕ, List, Option, Some, ap, subst, sym, ◌∙◌}
+use Rattle.std.proofs.Common.{ℕ, List, Option, ap, subst, sym, ◌∙◌}
 use Rattle.std.proofs.lemmas.Result.{err_from_is_err_and}
 use Rattle.psd_base.specs.declared.outlet.Outlet.TheVariants as outlet
 use Rattle.kvm_program.specs.Outlets.{Grew}

@@ -1,5 +1,5 @@
 -- A replay that begins at a fresh switch.
-use Rattle.std.proofs.Common.{◌≡◌, ℕ, List, Option, Some, ap, subst}
+use Rattle.std.proofs.Common.{Option, ap, subst}
 use Rattle.capture_reader.specs.Schedule.{Schedule}
 use Rattle.std.proofs.lemmas.Result.{err_from_is_err_and}
 use Rattle.psd_base.specs.declared.outlet.Input.TheVariants as input

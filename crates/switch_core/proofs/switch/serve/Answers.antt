@@ -5,4 +5,4 @@ pub returns-in-Clock-clause-stands : goal.returns-in-Clock-clause-stands
 returns-in-Clock-clause-stands c = λ past each place port is. rw c.in-Clock.is (each place port is)
 
 pub returns-in-Port-clause-stands : goal.returns-in-Port-clause-stands
-returns-in-Port-clause-stands c = λ past each place port is. rw c.in-Port.is (c.serve_act-line.ensures.stands past each place port is)
+returns-in-Port-clause-stands c = λ past each place port is. rw c.in-Port.is (c.serve_act-made.ensures.stands past each place port is)

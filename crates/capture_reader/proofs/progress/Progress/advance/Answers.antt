@@ -1,5 +1,5 @@
 -- What a step leaves, and why it stops.
-use Rattle.std.proofs.Common.{◌≡◌, inr, refl, ◌∙◌}
+use Rattle.std.proofs.Common.{inr, refl, ◌∙◌}
 use Rattle.std.proofs.lemmas.Result.{IfErr-weaker}
 use Rattle.psd_base.specs.declared.outlet.Input.TheVariants as inputs
 use Rattle.capture_reader.proofs.Upcoming.{nothing_waits, stops_because, ended, too_long, not_ok_true}
@@ -36,11 +36,11 @@ returns-in-Ok-clause-end g c is =
     let left = g.D.Desk.left c.look_on.new.desk inputs.Capture in
     let end = c.give-in-Ok.ensures.end is in
     ended c.give-in-Ok.new.self c.look_on.new.self _ left end.0 c.in-Ok.ensures.ok end.1 end.2
-        (c.give-in-Ok.ensures.rest (not_ok_true c.give-in-Ok.result is) left ∙ c.look_on.ensures.rest)
+    (c.give-in-Ok.ensures.rest (not_ok_true c.give-in-Ok.result is) left ∙ c.look_on.ensures.rest)
 
 pub returns-in-Ok-clause-cause : goal.returns-in-Ok-clause-cause
 returns-in-Ok-clause-cause g c =
     let left = g.D.Desk.left c.look_on.new.desk inputs.Capture in
     IfErr-weaker c.give-in-Ok.result _ _
-        (λ stop is. inr (too_long c.give-in-Ok.new.self c.look_on.new.self _ left _ _ stop is.0 is.1 c.in-Ok.ensures.ok is.3 is.2 c.look_on.ensures.rest))
-        c.give-in-Ok.ensures.stop
+    (λ stop is. inr (too_long c.give-in-Ok.new.self c.look_on.new.self _ left _ _ stop is.0 is.1 c.in-Ok.ensures.ok is.3 is.2 c.look_on.ensures.rest))
+    c.give-in-Ok.ensures.stop

@@ -1,11 +1,11 @@
 -- What is to come at the beginning is the schedule of the bytes that were left.
-use Rattle.std.proofs.Common.{◌≡◌, ◌≢◌, ℕ, Option, Some, option_map, IfErr, OnOk, ◌∙◌, ap, sym, subst}
+use Rattle.std.proofs.Common.{◌≢◌, ℕ, Option, Some, option_map, IfErr, OnOk, ◌∙◌, ap, sym, subst}
 use Rattle.std.proofs.lemmas.Result.{IfOk-weaker, IfErr-weaker}
 use Rattle.psd_base.specs.declared.outlet.Input.TheVariants as inputs
 use Rattle.psd_base.specs.declared.stop.CaptureFault.{CaptureFault}
 use Rattle.psd_base.specs.declared.stop.Stop.TheVariants as stops
 use Rattle.capture_reader.specs.Reader.{NewFailed}
-use Rattle.capture_reader.specs.Schedule.{Schedule, over, cut_recording, schedule}
+use Rattle.capture_reader.specs.Schedule.{Schedule, over, cut_recording}
 use Rattle.capture_reader.proofs.FirstLook.{schedules, port_count_told, open_is_new, failed_since}
 use Rattle.capture_reader.proofs.progress.Progress.begin.Goals as goal
 
@@ -29,7 +29,7 @@ returns-in-Ok-clause-err g c =
     let faults = g.D.Desk.read_faults c.open.new.desk inputs.Capture in
     let faults_after = g.D.Desk.read_faults c.first_look.new.desk inputs.Capture in
     IfErr-weaker c.first_look.result _ _ (λ stop failed. failed_since _ (g.D.Desk.read_faults c.args.desk.now inputs.Capture) faults faults_after stop (c.open.ensures.only.read_counts inputs.Capture) failed)
-        (subst (λ (before : Option Schedule). IfErr c.first_look.result (NewFailed before faults faults_after ⊥)) same c.first_look.ensures.err)
+    (subst (λ (before : Option Schedule). IfErr c.first_look.result (NewFailed before faults faults_after ⊥)) same c.first_look.ensures.err)
 
 pub returns-in-Err-clause-err : goal.returns-in-Err-clause-err
 returns-in-Err-clause-err g c = open_is_new c.args.limit _ _ (g.D.Desk.left c.args.desk.now inputs.Capture) c.in-Err.stop c.in-Err.ensures.err

@@ -1,8 +1,7 @@
 -- The event that was read ahead is given, or there is none, or it is one too many.
-use Rattle.std.proofs.Common.{◌≡◌, ◌+◌, ◌<◌, Option, List, ℕ, Some, None, option_map, IsSome, IsSomeAnd, refl, sym, ap, not, ◌∙◌, subst, arith}
+use Rattle.std.proofs.Common.{◌≡◌, ◌+◌, ◌<◌, None, option_map, IsSome, IsSomeAnd, refl, sym, ap, not, ◌∙◌, subst, arith}
 use Rattle.psd_base.specs.declared.stop.Stop.TheVariants.{TooLong}
 use Rattle.psd_base.specs.Event.{seen}
-use Rattle.capture_reader.specs.declared.progress.Progress.{Progress}
 use Rattle.capture_reader.specs.declared.progress.State.{State}
 use Rattle.capture_reader.specs.declared.progress.State.TheVariants.{Given}
 use Rattle.capture_reader.specs.Progress.{reading}
@@ -32,5 +31,5 @@ returns-clause-next c is left =
     let some : IsSome now.capture.ahead = c.is_none.ensures ∙ ap not c.if-is_none.false in
     let below : now.served < now.limit = omega arith in
     let P : State → Type 0 = λ state. IsSomeAnd (option_map seen now.capture.ahead) (λ event. rest (reading (record now { state = state })) left
-        ≡ option_map (in_front event) (rest (reading (record now { served = now.served + 1; state = Given })) left)) in
+    ≡ option_map (in_front event) (rest (reading (record now { served = now.served + 1; state = Given })) left)) in
     subst P (sym c.requires.waiting) (gives_next now.capture now.capture.ahead now.limit now.served left refl some below)

@@ -1,5 +1,5 @@
 -- Behind the end of the input nothing comes.
-use Rattle.std.proofs.Common.{◌≡◌, ◌<◌, length, refl, sym, subst, arith}
+use Rattle.std.proofs.Common.{◌≡◌, ◌<◌, length, sym, subst, arith}
 use Rattle.std.proofs.lemmas.List.{nil_from_length}
 use Rattle.psd_base.specs.declared.stop.Stop.{Stop}
 use Rattle.capture_reader.specs.Source.{LookFailed}
@@ -10,11 +10,11 @@ pub returns-then-len-eq0-clause-ok : goal.returns-then-len-eq0-clause-ok
 returns-then-len-eq0-clause-ok c =
     let now = c.args.self.now in
     let none : length now.window.bytes ≡ 0 = omega arith in
-    (refl, ends_empty now.ports now.tick now.offset now.window c.requires.ended (nil_from_length now.window.bytes none))
+    ends_empty now.ports now.tick now.offset now.window c.requires.ended (nil_from_length now.window.bytes none)
 
 pub returns-clause-err : goal.returns-clause-err
 returns-clause-err c before after =
     let now = c.args.self.now in
     let some : 0 < length now.window.bytes = omega arith in
     subst (λ (stop : Stop). LookFailed now.ports now.tick now.offset now.window before after stop) (sym c.fault.ensures)
-        (ends_short now.ports now.tick now.offset now.window c.requires.ended some c.requires.short)
+    (ends_short now.ports now.tick now.offset now.window c.requires.ended some c.requires.short)

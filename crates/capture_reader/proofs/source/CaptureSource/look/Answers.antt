@@ -1,30 +1,44 @@
 -- The next record, or none, and what comes after it.
-use Rattle.std.proofs.Common.{◌≡◌, None, ◌∙◌, ap, sym}
-use Rattle.std.proofs.lemmas.Result.{on_ok_weaker, on_err_weaker}
+use Rattle.std.proofs.Common.{None, refl, ◌∙◌, sym}
+use Rattle.std.proofs.lemmas.Result.{on_ok_weaker, on_err_weaker, IfErr-weaker}
 use Rattle.psd_base.specs.declared.outlet.Input.TheVariants as inputs
-use Rattle.capture_reader.specs.declared.source.CaptureSource.{CaptureSource}
-use Rattle.capture_reader.specs.Source.{later}
-use Rattle.capture_reader.proofs.Ahead.{later_same, some_and, ahead_read, nothing_ahead}
+use Rattle.capture_reader.specs.Source.{later_of}
+use Rattle.capture_reader.proofs.Ahead.{later_still, partial_short, some_and, ahead_read, nothing_ahead}
 use Rattle.capture_reader.proofs.source.CaptureSource.look.Goals as goal
 
-pub returns-in-Ok-Some-clause-read : goal.returns-in-Ok-Some-clause-read
-returns-in-Ok-Some-clause-read g c =
-    let new = c.look_at_payload.new.self in
-    let before = later_same c.args.self.now c.look_at_head.new.self None (g.D.Desk.left c.args.desk.now inputs.Capture) (g.D.Desk.left c.look_at_head.new.desk inputs.Capture) c.look_at_head.ensures.still c.look_at_head.ensures.same in
-    let after = later new.ports new.tick new.offset new.window (g.D.Desk.left c.look_at_payload.new.desk inputs.Capture) in
-    on_ok_weaker c.look_at_payload.result (λ found. before ∙ ahead_read new.ahead _ after (some_and new.ahead (λ event is. is.2) found)) c.look_at_payload.ensures.ok
-
-pub returns-in-Ok-Some-clause-stays : goal.returns-in-Ok-Some-clause-stays
-returns-in-Ok-Some-clause-stays g c =
-    let before = later_same c.args.self.now c.look_at_head.new.self None (g.D.Desk.left c.args.desk.now inputs.Capture) (g.D.Desk.left c.look_at_head.new.desk inputs.Capture) c.look_at_head.ensures.still c.look_at_head.ensures.same in
-    on_err_weaker c.look_at_payload.result (λ same. same ∙ sym before) c.look_at_payload.ensures.stays
-
-pub returns-in-Ok-None-clause-read : goal.returns-in-Ok-None-clause-read
-returns-in-Ok-None-clause-read g c =
+pub returns-in-Ok-true-clause-read : goal.returns-in-Ok-true-clause-read
+returns-in-Ok-true-clause-read g c =
+    let now = c.args.self.now in
     let new = c.look_at_head.new.self in
-    let before = later_same c.args.self.now new None (g.D.Desk.left c.args.desk.now inputs.Capture) (g.D.Desk.left c.look_at_head.new.desk inputs.Capture) c.look_at_head.ensures.still c.look_at_head.ensures.same in
-    before ∙ nothing_ahead new.ahead _ (ap (λ (source : CaptureSource). source.ahead) c.look_at_head.ensures.same)
+    let before = later_still now.ports now.tick now.offset now.window c.hold.new.self (g.D.Desk.left c.args.desk.now inputs.Capture) (g.D.Desk.left c.hold.new.desk inputs.Capture) c.hold.ensures.still in
+    let after = later_of new (g.D.Desk.left c.look_at_head.new.desk inputs.Capture) in
+    on_ok_weaker c.look_at_head.result (λ found. before ∙ ahead_read new.ahead _ after (some_and new.ahead (λ event is. is.1) found)) c.look_at_head.ensures.ok
+
+pub returns-in-Ok-true-clause-stays : goal.returns-in-Ok-true-clause-stays
+returns-in-Ok-true-clause-stays g c =
+    let now = c.args.self.now in
+    let before = later_still now.ports now.tick now.offset now.window c.hold.new.self (g.D.Desk.left c.args.desk.now inputs.Capture) (g.D.Desk.left c.hold.new.desk inputs.Capture) c.hold.ensures.still in
+    on_err_weaker c.look_at_head.result (λ same. same ∙ sym before) c.look_at_head.ensures.stays
+
+pub returns-in-Ok-false-clause-read : goal.returns-in-Ok-false-clause-read
+returns-in-Ok-false-clause-read g c =
+    let now = c.args.self.now in
+    let before = later_still now.ports now.tick now.offset now.window c.hold.new.self (g.D.Desk.left c.args.desk.now inputs.Capture) (g.D.Desk.left c.hold.new.desk inputs.Capture) c.hold.ensures.still in
+    on_ok_weaker c.end.result (λ _. before ∙ nothing_ahead None _ refl) c.end.ensures.ok
+
+pub returns-in-Ok-false-clause-stays : goal.returns-in-Ok-false-clause-stays
+returns-in-Ok-false-clause-stays g c =
+    let now = c.args.self.now in
+    let before = later_still now.ports now.tick now.offset now.window c.hold.new.self (g.D.Desk.left c.args.desk.now inputs.Capture) (g.D.Desk.left c.hold.new.desk inputs.Capture) c.hold.ensures.still in
+    IfErr-weaker c.end.result _ _ (λ stop _. sym before) (c.end.ensures.err 0 0)
 
 pub returns-in-Err-clause-stays : goal.returns-in-Err-clause-stays
 returns-in-Err-clause-stays g c =
-    sym (later_same c.args.self.now c.look_at_head.new.self None (g.D.Desk.left c.args.desk.now inputs.Capture) (g.D.Desk.left c.look_at_head.new.desk inputs.Capture) c.look_at_head.ensures.still c.look_at_head.ensures.same)
+    let now = c.args.self.now in
+    sym (later_still now.ports now.tick now.offset now.window c.hold.new.self (g.D.Desk.left c.args.desk.now inputs.Capture) (g.D.Desk.left c.hold.new.desk inputs.Capture) c.hold.ensures.still)
+
+pub returns-in-Err-clause-err : goal.returns-in-Err-clause-err
+returns-in-Err-clause-err g c = (c.in-Err.ensures.failed, partial_short _ _ _ c.hold.new.self c.in-Err.ensures.short)
+
+pub returns-in-Ok-false-clause-err : goal.returns-in-Ok-false-clause-err
+returns-in-Ok-false-clause-err g c = c.end.ensures.err (g.D.Desk.read_faults c.args.desk.now inputs.Capture) (g.D.Desk.read_faults c.hold.new.desk inputs.Capture)

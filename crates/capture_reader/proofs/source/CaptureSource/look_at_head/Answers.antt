@@ -1,12 +1,16 @@
--- Why there is no head.
-use Rattle.capture_reader.proofs.Ahead.{partial_short}
+-- A faulty head shows its fault, whatever comes behind it.
+use Rattle.std.proofs.Common.{sym, ap, ◌∙◌, subst}
+use Rattle.psd_base.specs.declared.outlet.Input.TheVariants as inputs
+use Rattle.psd_base.specs.declared.stop.Stop.{Stop}
+use Rattle.capture_reader.specs.Capture.{head_of, announced}
+use Rattle.capture_reader.specs.Source.{LookFailed}
+use Rattle.capture_reader.proofs.Ahead.{ends_head}
 use Rattle.capture_reader.proofs.source.CaptureSource.look_at_head.Goals as goal
 
-pub returns-in-Ok-true-clause-err : goal.returns-in-Ok-true-clause-err
-returns-in-Ok-true-clause-err g c = c.head.ensures.err _ _
-
-pub returns-in-Ok-false-clause-err : goal.returns-in-Ok-false-clause-err
-returns-in-Ok-false-clause-err g c = c.end.ensures.err _ _
-
 pub returns-in-Err-clause-err : goal.returns-in-Err-clause-err
-returns-in-Err-clause-err g c = (c.in-Err.ensures.failed, partial_short _ _ _ c.hold.new.self c.in-Err.ensures.short)
+returns-in-Err-clause-err g c =
+    let now = c.args.self.now in
+    let faults = g.D.Desk.read_faults c.args.desk.now inputs.Capture in
+    let head = c.read_head-head.ensures ∙ ap head_of c.bytes.ensures in
+    subst (λ (stop : Stop). LookFailed now.ports now.tick now.offset now.window faults faults stop) (sym c.fault.ensures)
+    (ends_head now.ports now.tick now.offset now.window c.in-Err.why c.requires.whole (ap (announced now.ports now.tick) (sym head) ∙ sym c.in-Err.ensures.value))

@@ -1,5 +1,5 @@
 -- What is found behind a sound head.
-use Rattle.std.proofs.Common.{◌≡◌, Ok, ◌∙◌, ap, sym, subst}
+use Rattle.std.proofs.Common.{Ok, ◌∙◌, ap, sym, subst}
 use Rattle.std.proofs.lemmas.Result.{on_ok_weaker, on_err_weaker}
 use Rattle.psd_base.specs.declared.outlet.Input.TheVariants as inputs
 use Rattle.psd_base.specs.declared.stop.Stop.{Stop}
@@ -17,8 +17,9 @@ returns-in-Ok-true-clause-ok g c =
     let left_after = g.D.Desk.left c.hold.new.desk inputs.Capture in
     let before = later_still now.ports now.tick now.offset now.window c.hold.new.self left left_after c.hold.ensures.still in
     on_ok_weaker c.take_record.result
-        (some_and new.ahead (λ event found. (found.0, found.1, before ∙ later_moves now.ports now.tick now.offset new.ports new.tick new.offset c.hold.new.self new.window (seen event) left_after found.2)))
-        c.take_record.ensures.ahead
+    (some_and new.ahead (λ event found.
+    (found.0, before ∙ later_moves now.ports now.tick now.offset new.ports new.tick new.offset c.hold.new.self new.window (seen event) left_after found.1)))
+    c.take_record.ensures.ahead
 
 pub returns-in-Ok-true-clause-stays : goal.returns-in-Ok-true-clause-stays
 returns-in-Ok-true-clause-stays g c =
@@ -27,8 +28,8 @@ returns-in-Ok-true-clause-stays g c =
     let left_after = g.D.Desk.left c.hold.new.desk inputs.Capture in
     let before = later_still now.ports now.tick now.offset now.window c.hold.new.self left left_after c.hold.ensures.still in
     on_err_weaker c.take_record.result
-        (λ same. ap (λ (source : CaptureSource). later source.ports source.tick source.offset source.window left_after) same ∙ sym before)
-        c.take_record.ensures.same
+    (λ same. ap (λ (source : CaptureSource). later source.ports source.tick source.offset source.window left_after) same ∙ sym before)
+    c.take_record.ensures.same
 
 pub returns-in-Ok-true-clause-err : goal.returns-in-Ok-true-clause-err
 returns-in-Ok-true-clause-err g c =
@@ -41,7 +42,7 @@ returns-in-Ok-false-clause-err g c =
     let ended = c.in-Ok-false.ensures.ended (ap Ok c.in-Ok-false.field-0-test) in
     let sound = announces_longer now.ports now.tick now.window.bytes held.bytes c.args.head.now c.args.form c.requires.sound c.hold.ensures.front in
     subst (λ (stop : Stop). LookFailed now.ports now.tick now.offset held (g.D.Desk.read_faults c.args.desk.now inputs.Capture) (g.D.Desk.read_faults c.hold.new.desk inputs.Capture) stop)
-        (sym c.fault.ensures) (ends_cut now.ports now.tick now.offset held c.args.head.now c.args.form sound ended.0 ended.1)
+    (sym c.fault.ensures) (ends_cut now.ports now.tick now.offset held c.args.head.now c.args.form sound ended.0 ended.1)
 
 pub returns-in-Err-clause-err : goal.returns-in-Err-clause-err
 returns-in-Err-clause-err g c =

@@ -1,9 +1,9 @@
 -- The bytes that were left hold the header, and the records behind it.
-use Rattle.std.proofs.Common.{◌≡◌, List, ℕ, Option, Ok, Err, option_map, ap, sym, ◌∙◌}
+use Rattle.std.proofs.Common.{Ok, Err, ap, sym, ◌∙◌}
 use Rattle.std.proofs.lemmas.Result.{IfOk-weaker, IfErr-weaker}
 use Rattle.psd_base.specs.declared.outlet.Input.TheVariants as inputs
 use Rattle.capture_reader.specs.Source.{later}
-use Rattle.capture_reader.specs.Window.{Held, coming, still}
+use Rattle.capture_reader.specs.Window.{Held, still}
 use Rattle.capture_reader.proofs.Opening.{all_is, header_told, header_cut, records_told, open_failed}
 use Rattle.capture_reader.proofs.source.CaptureSource.open.Goals as goal
 
@@ -24,8 +24,8 @@ returns-in-Ok-true-clause-records g c =
     let all = all_is held left left_after (c.hold.ensures.still ∙ ap (λ (window : Held). still window left) c.requires) in
     let whole = c.in-Ok-true.ensures.held (ap Ok c.in-Ok-true.field-0-test) in
     IfOk-weaker c.behind_header.result _ _
-        (λ source is. records_told held left left_after source.ports all whole is.0 ∙ ap (λ (window : Held). later source.ports 0 8 window left_after) (sym is.1))
-        c.behind_header.ensures.behind
+    (λ source is. records_told held left left_after source.ports all whole is.0 ∙ ap (λ (window : Held). later source.ports 0 8 window left_after) (sym is.1))
+    c.behind_header.ensures.behind
 
 pub returns-in-Ok-true-clause-err : goal.returns-in-Ok-true-clause-err
 returns-in-Ok-true-clause-err g c =
@@ -35,8 +35,8 @@ returns-in-Ok-true-clause-err g c =
     let all = all_is held left left_after (c.hold.ensures.still ∙ ap (λ (window : Held). still window left) c.requires) in
     let whole = c.in-Ok-true.ensures.held (ap Ok c.in-Ok-true.field-0-test) in
     IfErr-weaker c.behind_header.result _ _
-        (λ stop is. open_failed left _ _ stop is.1 (header_told held left left_after (Err stop) all whole is.0))
-        c.behind_header.ensures.err
+    (λ stop is. open_failed left _ _ stop is.1 (header_told held left left_after (Err stop) all whole is.0))
+    c.behind_header.ensures.err
 
 pub returns-in-Ok-false-clause-err : goal.returns-in-Ok-false-clause-err
 returns-in-Ok-false-clause-err g c =

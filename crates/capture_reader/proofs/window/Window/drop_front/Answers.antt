@@ -1,5 +1,5 @@
 -- What is left of the part that is held.
-use Rattle.std.proofs.Common.{◌≡◌, ◌+◌, ◌-◌, ◌≤◌, length, drop, slice_range, sym, ap, ◌∙◌, subst, arith, length-take, length-drop}
+use Rattle.std.proofs.Common.{◌≡◌, ◌+◌, ◌-◌, ◌≤◌, length, drop, slice_range, sym, ap, subst, arith, length-take}
 use Rattle.capture_reader.specs.Window.{Held}
 use Rattle.capture_reader.proofs.Slices.{slice_range_past}
 use Rattle.capture_reader.proofs.window.Window.drop_front.Goals as goal

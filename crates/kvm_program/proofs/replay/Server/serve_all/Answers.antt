@@ -1,5 +1,5 @@
 -- The end of the events, or the stop of one of them.
-use Rattle.std.proofs.Common.{◌≡◌, ℕ, List, Option, Some, Ok, false, ap}
+use Rattle.std.proofs.Common.{Some, Ok, ap}
 use Rattle.std.proofs.lemmas.Result.{err_from_is_err_and}
 use Rattle.kvm_program.proofs.Serving.{ServingStops-earlier, Finished-over}
 use Rattle.kvm_program.proofs.replay.Server.serve_all.Goals as goal

@@ -1,5 +1,5 @@
 -- However far the replay came, it came there from the start.
-use Rattle.std.proofs.Common.{◌≡◌, ℕ, ◌-◌, List, Option}
+use Rattle.std.proofs.Common.{ℕ, ◌-◌, List, Option}
 use Rattle.psd_base.specs.declared.outlet.Input.TheVariants as input
 use Rattle.psd_base.specs.declared.outlet.Outlet.{Outlet}
 use Rattle.capture_reader.specs.Schedule.{Schedule}

@@ -1,8 +1,8 @@
 -- An event more, the end, or a stop.
-use Rattle.std.proofs.Common.{◌≡◌, ℕ, List, ◌∷◌, Option, Some, Ok, IsSomeAnd, true, option_map, inl, inr, subst, sym, ap}
+use Rattle.std.proofs.Common.{◌≡◌, ℕ, List, Option, Ok, IsSomeAnd, option_map, inl, inr, subst, sym, ap}
 use Rattle.std.proofs.lemmas.Result.{err_from_is_err_and}
 use Rattle.psd_base.specs.Event.{Seen, seen}
-use Rattle.capture_reader.specs.Schedule.{Schedule, in_front}
+use Rattle.capture_reader.specs.Schedule.{in_front}
 use Rattle.capture_reader.specs.Reader.{rest, StopsBecause}
 use Rattle.psd_base.specs.declared.outlet.Input.TheVariants as input
 use Rattle.psd_base.specs.declared.outlet.Outlet.TheVariants as outlet
@@ -12,7 +12,7 @@ use Rattle.kvm_program.specs.Outlets.{Grew}
 use Rattle.kvm_program.specs.Transcript.{text_at}
 use Rattle.kvm_program.proofs.Serving.{Progress-more, Progress-broken, WroteAtStop-advance, ServingStops-advance}
 use Rattle.kvm_program.proofs.replay.Server.serve_next.Goals as goal
-use Rattle.kvm_program.proofs.replay.Server.serve_next.Goals.{After-event-event, In_err-advance}
+use Rattle.kvm_program.proofs.replay.Server.serve_next.Goals.{After-event_ref-event, In_err-advance}
 use Rattle.kvm_program.proofs.replay.Server.serve_next.Given as given
 
 -- the reader had not stopped before
@@ -39,13 +39,13 @@ returns-in_err-advance-clause-stop g c =
     (g.D.Desk.write_faults c.args.desk.now) (g.D.Desk.write_faults c.advance.new.desk) so_far (because g (goal.at.returns-in_err-advance-clause-stop g c).In_err-advance))
 
 -- what the reader had to come begins with the event that was served
-next_is : (g : given.Over) (c : After-event-event g)
+next_is : (g : given.Over) (c : After-event_ref-event g)
     → rest c.args.reader.now (g.D.Desk.left c.args.desk.now input.Capture)
-    ≡ option_map (in_front (seen c.event-event.result)) (rest c.advance.new.self (g.D.Desk.left c.advance.new.desk input.Capture))
+    ≡ option_map (in_front (seen c.event_ref-event.result.now)) (rest c.advance.new.self (g.D.Desk.left c.advance.new.desk input.Capture))
 next_is g c =
     let gives = c.in_ok-advance.ensures.next (ap Ok c.if-not-branch.false) in
     subst (λ (given : Option Seen). IsSomeAnd given (λ event. rest c.args.reader.now (g.D.Desk.left c.args.desk.now input.Capture)
-    ≡ option_map (in_front event) (rest c.advance.new.self (g.D.Desk.left c.advance.new.desk input.Capture)))) (sym c.event-event.ensures) gives
+    ≡ option_map (in_front event) (rest c.advance.new.self (g.D.Desk.left c.advance.new.desk input.Capture)))) (sym c.event_ref-event.ensures) gives
 
 pub returns-in_err-serve-clause-written : goal.returns-in_err-serve-clause-written
 returns-in_err-serve-clause-written g c =
@@ -53,19 +53,19 @@ returns-in_err-serve-clause-written g c =
     let stop = c.in_err-serve.ensures.stop in
     rw (p.1, p.2, stop.1) (λ schedule sent port so_far.
     let wrote = c.in_err-serve.ensures.wrote so_far.past so_far.stands port in
-    let part = subst (λ (mid : Option (List ℕ)). IsAppendedPart mid (g.D.Desk.sent c.serve.new.desk (outlet.Port port)) (text_at port (line_at (seen c.event-event.result) so_far.past)))
+    let part = subst (λ (mid : Option (List ℕ)). IsAppendedPart mid (g.D.Desk.sent c.serve.new.desk (outlet.Port port)) (text_at port (line_at (seen c.event_ref-event.result.now) so_far.past)))
     (c.in_ok-advance.ensures.desk.outlets (outlet.Port port)) wrote in
-    Progress-broken schedule _ _ sent (g.D.Desk.sent c.args.desk.now) (g.D.Desk.sent c.serve.new.desk) _ _ (seen c.event-event.result) port so_far (next_is g (goal.at.returns-in_err-serve-clause-written g c).After-event-event) part)
+    Progress-broken schedule _ _ sent (g.D.Desk.sent c.args.desk.now) (g.D.Desk.sent c.serve.new.desk) _ _ (seen c.event_ref-event.result.now) port so_far (next_is g (goal.at.returns-in_err-serve-clause-written g c).After-event_ref-event) part)
 
 pub returns-clause-going : goal.returns-clause-going
 returns-clause-going g c = λ true_is coming sent so_far.
-    let next = next_is g (goal.at.returns-clause-going g c).After-event-event in
+    let next = next_is g (goal.at.returns-clause-going g c).After-event_ref-event in
     let past = so_far.past in
-    Progress-more coming _ _ sent (g.D.Desk.sent c.args.desk.now) (g.D.Desk.sent c.serve.new.desk) _ _ _ _ (seen c.event-event.result) so_far
-    (subst (λ (left : Option (List ℕ)). rest c.args.reader.now (g.D.Desk.left c.args.desk.now input.Capture) ≡ option_map (in_front (seen c.event-event.result)) (rest c.advance.new.self left))
+    Progress-more coming _ _ sent (g.D.Desk.sent c.args.desk.now) (g.D.Desk.sent c.serve.new.desk) _ _ _ _ (seen c.event_ref-event.result.now) so_far
+    (subst (λ (left : Option (List ℕ)). rest c.args.reader.now (g.D.Desk.left c.args.desk.now input.Capture) ≡ option_map (in_front (seen c.event_ref-event.result.now)) (rest c.advance.new.self left))
     (sym (c.in_ok-serve.ensures.others.inputs input.Capture)) next)
     (c.in_ok-serve.ensures.stands past so_far.stands)
-    (λ port. subst (λ (mid : Option (List ℕ)). Grew mid (g.D.Desk.sent c.serve.new.desk (outlet.Port port)) (text_at port (line_at (seen c.event-event.result) past)))
+    (λ port. subst (λ (mid : Option (List ℕ)). Grew mid (g.D.Desk.sent c.serve.new.desk (outlet.Port port)) (text_at port (line_at (seen c.event_ref-event.result.now) past)))
     (c.in_ok-advance.ensures.desk.outlets (outlet.Port port)) (c.in_ok-serve.ensures.wrote past so_far.stands port))
     (c.in_ok-serve.ensures.counted past so_far.stands)
     c.in_ok-serve.ensures.served

@@ -1,5 +1,5 @@
 -- One more port that just woke.
-use Rattle.std.proofs.Common.{◌≡◌, ℕ, ◌+◌, List, [], vec_len, subst, sym, arith}
+use Rattle.std.proofs.Common.{◌≡◌, ◌+◌, List, [], vec_len, subst, sym, arith}
 use Rattle.switch_core.specs.declared.port.Port.{Port}
 use Rattle.switch_core.specs.StandsFor.{PortsStand}
 use Rattle.switch_core.proofs.PortLists.{PortsStand-push}

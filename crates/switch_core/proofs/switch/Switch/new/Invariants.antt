@@ -1,5 +1,5 @@
 -- The ports made so far just woke.
-use Rattle.std.proofs.Common.{◌≡◌, ℕ, [], vec_len}
+use Rattle.std.proofs.Common.{◌≡◌, [], vec_len}
 use Rattle.switch_core.specs.StandsFor.{PortsStand}
 use Rattle.switch_core.proofs.switch.Switch.new.Given as goal
 

@@ -8,12 +8,12 @@ use Rattle.switch_core.proofs.switch.Switch.step.Goals as goal
 
 pub returns-clause-stands : goal.returns-clause-stands
 returns-clause-stands c = λ past stands.
-    let same = take_at c.serve-turn.new.ports _ _ (c.serve-turn.auto.ports ∙ c.deref_mut.ensures.len) in
+    let same = take_at c.serve.new.ports _ _ (c.serve.auto.ports ∙ c.deref_mut.ensures.len) in
     record {
       ports = subst (λ (ports : List Port). PortsStand ports (seen c.args.event.now ∷ past)) (sym same)
-          (c.serve-turn.ensures.stands past (subst (λ (ports : List Port). PortsStand ports past) (sym c.deref_mut.ensures.value) stands.ports));
+          (c.serve.ensures.stands past (subst (λ (ports : List Port). PortsStand ports past) (sym c.deref_mut.ensures.value) stands.ports));
     }
 
 pub returns-clause-line : goal.returns-clause-line
 returns-clause-line c = λ past stands.
-    c.serve-turn.ensures.line past (subst (λ (ports : List Port). PortsStand ports past) (sym c.deref_mut.ensures.value) stands.ports)
+    c.serve.ensures.line past (subst (λ (ports : List Port). PortsStand ports past) (sym c.deref_mut.ensures.value) stands.ports)

@@ -1,0 +1,182 @@
+-- Loops over the ranges of a field and over the bits of an element.
+use Rattle.std.proofs.Common.{◌≡◌, ℕ, zero, suc, ◌+◌, ◌-◌, ◌*◌, ◌^◌, ◌<◌, ◌≤◌, Bool, true, false, cond, List, [], ◌∷◌, ◌++◌, length, get_or, drop, Option, Some, None, refl, ap, ◌∙◌, arith, nat_lt, nat_le, add-one}
+use Rattle.std.proofs.Math.Nat.{pow-suc}
+use Rattle.std.specs.List.{list_any}
+use Rattle.std.specs.Option.{option_to_list}
+use Rattle.hid_report.specs.declared.field.Field.{Field}
+use Rattle.std.proofs.lemmas.List.{at_drop_more, at_drop_all}
+use Rattle.std.proofs.lemmas.Bool.Decides.{nat_tests}
+use Rattle.hid_report.specs.declared.usage.Span.{Span}
+use Rattle.hid_report.specs.Elements.{usage_at, last_usage, bit_of, raw_bits, element_usage, element_usages, down_usage, down_from}
+use Rattle.hid_report.specs.Wanted.{is_one}
+use Rattle.hid_report.specs.Keys.{press, press_all}
+use Rattle.hid_report.specs.Pointer.{find_element, is_usage}
+
+-- one range of a list
+usage_at-empty : (span : Span) (spans : List Span) (n : ℕ) → span.high < span.low → usage_at (span ∷ spans) n ≡ usage_at spans n
+unfolding usage_at
+usage_at-empty span spans n h = grind (arith, nat_tests)
+
+usage_at-here : (span : Span) (spans : List Span) (n : ℕ) → span.low ≤ span.high → n ≤ span.high - span.low → usage_at (span ∷ spans) n ≡ Some (span.low + n)
+unfolding usage_at
+usage_at-here span spans n h k = grind (arith, nat_tests)
+
+usage_at-later : (span : Span) (spans : List Span) (n : ℕ) → span.low ≤ span.high → span.high - span.low < n → usage_at (span ∷ spans) n ≡ usage_at spans (n - (span.high - span.low + 1))
+unfolding usage_at
+usage_at-later span spans n h k =
+    let first : nat_lt span.high span.low ≡ false = grind (arith, nat_tests) in
+    let second : nat_le n (span.high - span.low) ≡ false = grind (arith, nat_tests) in
+    let less : n - (span.high - span.low) - 1 ≡ n - (span.high - span.low + 1) = omega arith in
+    rw (first, second) (ap (usage_at spans) less)
+
+pub next-empty : (spans : List Span) (i n : ℕ) (d : Span) → i < length spans → (get_or spans i d).high < (get_or spans i d).low
+    → usage_at (drop i spans) n ≡ usage_at (drop (i + 1) spans) n
+next-empty spans i n d h e = at_drop_more (λ xs. usage_at xs n) spans i d h ∙ usage_at-empty (get_or spans i d) (drop (i + 1) spans) n e
+
+pub next-here : (spans : List Span) (i n : ℕ) (d : Span) → i < length spans → (get_or spans i d).low ≤ (get_or spans i d).high
+    → n ≤ (get_or spans i d).high - (get_or spans i d).low → usage_at (drop i spans) n ≡ Some ((get_or spans i d).low + n)
+next-here spans i n d h e k = at_drop_more (λ xs. usage_at xs n) spans i d h ∙ usage_at-here (get_or spans i d) (drop (i + 1) spans) n e k
+
+pub next-later : (spans : List Span) (i n : ℕ) (d : Span) → i < length spans → (get_or spans i d).low ≤ (get_or spans i d).high
+    → (get_or spans i d).high - (get_or spans i d).low < n → usage_at (drop i spans) n ≡ usage_at (drop (i + 1) spans) (n - ((get_or spans i d).high - (get_or spans i d).low + 1))
+next-later spans i n d h e k = at_drop_more (λ xs. usage_at xs n) spans i d h ∙ usage_at-later (get_or spans i d) (drop (i + 1) spans) n e k
+
+pub next-none : (spans : List Span) (i n : ℕ) → length spans ≤ i → usage_at (drop i spans) n ≡ None
+unfolding usage_at
+next-none spans i n h = at_drop_all (λ xs. usage_at xs n) spans i h ∙ nothing
+  where
+    nothing : usage_at [] n ≡ None
+    nothing = refl
+
+last-empty : (last : Option ℕ) (span : Span) (spans : List Span) → span.high < span.low → last_usage last (span ∷ spans) ≡ last_usage last spans
+unfolding last_usage
+last-empty last span spans h =
+    let test : nat_lt span.high span.low ≡ true = grind (arith, nat_tests) in
+    rw test refl
+
+last-full : (last : Option ℕ) (span : Span) (spans : List Span) → span.low ≤ span.high → last_usage last (span ∷ spans) ≡ last_usage (Some span.high) spans
+unfolding last_usage
+last-full last span spans h =
+    let test : nat_lt span.high span.low ≡ false = grind (arith, nat_tests) in
+    rw test refl
+
+pub more-empty : (last : Option ℕ) (spans : List Span) (i : ℕ) (d : Span) → i < length spans → (get_or spans i d).high < (get_or spans i d).low
+    → last_usage last (drop i spans) ≡ last_usage last (drop (i + 1) spans)
+more-empty last spans i d h e = at_drop_more (last_usage last) spans i d h ∙ last-empty last (get_or spans i d) (drop (i + 1) spans) e
+
+pub more-full : (last : Option ℕ) (spans : List Span) (i : ℕ) (d : Span) → i < length spans → (get_or spans i d).low ≤ (get_or spans i d).high
+    → last_usage last (drop i spans) ≡ last_usage (Some (get_or spans i d).high) (drop (i + 1) spans)
+more-full last spans i d h e = at_drop_more (last_usage last) spans i d h ∙ last-full last (get_or spans i d) (drop (i + 1) spans) e
+
+pub more-none : (last : Option ℕ) (spans : List Span) (i : ℕ) → length spans ≤ i → last_usage last (drop i spans) ≡ last
+unfolding last_usage
+more-none last spans i h = at_drop_all (last_usage last) spans i h ∙ nothing
+  where
+    nothing : last_usage last [] ≡ last
+    nothing = refl
+
+pub ruleset usage_steps = (next-empty, next-here, next-later, next-none, more-empty, more-full, more-none)
+
+-- one more bit
+pub raw_bits-none : (report : List ℕ) (place : ℕ) → raw_bits report place 0 ≡ 0
+unfolding raw_bits
+raw_bits-none report place = refl
+
+pub raw_bits-more : (report : List ℕ) (place n : ℕ) → raw_bits report place (n + 1) ≡ raw_bits report place n + bit_of report (place + n) * 2 ^ n
+unfolding raw_bits
+raw_bits-more report place n = rw add-one refl
+
+pub ruleset bit_steps = (raw_bits-none, raw_bits-more)
+
+pub next-weight : (w i : ℕ) → w ≡ 2 ^ i → w * 2 ≡ 2 ^ (i + 1)
+next-weight w i h = rw (add-one, pow-suc) (ap (λ v. v * 2) h)
+
+pub next-fits : (v b w : ℕ) → v < w → b < 2 → v + b * w < w * 2
+next-fits v zero w h k = omega arith
+next-fits v (suc zero) w h k = omega arith
+next-fits v (suc (suc b)) w h k = absurd (omega arith)
+
+-- one element more of a field's usages
+element_usages-more : (spans : List Span) (j n : ℕ) → j < n → element_usages spans j (n - j) ≡ option_to_list (element_usage spans j) ++ element_usages spans (j + 1) (n - (j + 1))
+unfolding element_usages
+element_usages-more spans j n h =
+    let more : n - j ≡ suc (n - (j + 1)) = omega arith in
+    rw more refl
+
+down_from-more : (field : Field) (numbered : Bool) (report : List ℕ) (j n : ℕ) → j < n
+    → down_from field numbered report j (n - j) ≡ option_to_list (down_usage field numbered report j) ++ down_from field numbered report (j + 1) (n - (j + 1))
+unfolding down_from
+down_from-more field numbered report j n h =
+    let more : n - j ≡ suc (n - (j + 1)) = omega arith in
+    rw more refl
+
+find_element-more : (wanted : ℕ) (spans : List Span) (j n : ℕ) → j < n
+    → find_element wanted spans j (n - j) ≡ cond (is_usage wanted (element_usage spans j)) (Some j) (find_element wanted spans (j + 1) (n - (j + 1)))
+unfolding find_element
+find_element-more wanted spans j n h =
+    let more : n - j ≡ suc (n - (j + 1)) = omega arith in
+    rw more refl
+
+one-true : (test : ℕ → Bool) (o : Option ℕ) (rest : List ℕ) → is_one test o ≡ true → list_any test (option_to_list o ++ rest) ≡ true
+one-true test None rest h = absurd (cc)
+one-true test (Some usage) rest h = rw h refl
+
+one-false : (test : ℕ → Bool) (o : Option ℕ) (rest : List ℕ) → is_one test o ≡ false → list_any test (option_to_list o ++ rest) ≡ list_any test rest
+one-false test None rest h = refl
+one-false test (Some usage) rest h = rw h refl
+
+-- what is left to look through, at an element that passes and at one that doesn't
+pub any-here : (test : ℕ → Bool) (spans : List Span) (j n : ℕ) → j < n → is_one test (element_usage spans j) ≡ true
+    → list_any test (element_usages spans j (n - j)) ≡ true
+any-here test spans j n h e = rw (element_usages-more spans j n h) (one-true test (element_usage spans j) (element_usages spans (j + 1) (n - (j + 1))) e)
+
+pub any-later : (test : ℕ → Bool) (spans : List Span) (j n : ℕ) → j < n → is_one test (element_usage spans j) ≡ false
+    → list_any test (element_usages spans j (n - j)) ≡ list_any test (element_usages spans (j + 1) (n - (j + 1)))
+any-later test spans j n h e = rw (element_usages-more spans j n h) (one-false test (element_usage spans j) (element_usages spans (j + 1) (n - (j + 1))) e)
+
+pub any-end : (test : ℕ → Bool) (spans : List Span) (j n : ℕ) → n ≤ j → list_any test (element_usages spans j (n - j)) ≡ false
+unfolding element_usages
+any-end test spans j n h = let nothing : n - j ≡ 0 = omega arith in rw nothing refl
+
+pub find-here : (wanted : ℕ) (spans : List Span) (j n : ℕ) → j < n → is_usage wanted (element_usage spans j) ≡ true
+    → find_element wanted spans j (n - j) ≡ Some j
+find-here wanted spans j n h e = rw (find_element-more wanted spans j n h, e) refl
+
+pub find-later : (wanted : ℕ) (spans : List Span) (j n : ℕ) → j < n → is_usage wanted (element_usage spans j) ≡ false
+    → find_element wanted spans j (n - j) ≡ find_element wanted spans (j + 1) (n - (j + 1))
+find-later wanted spans j n h e = rw (find_element-more wanted spans j n h, e) refl
+
+pub find-end : (wanted : ℕ) (spans : List Span) (j n : ℕ) → n ≤ j → find_element wanted spans j (n - j) ≡ None
+unfolding find_element
+find-end wanted spans j n h = let nothing : n - j ≡ 0 = omega arith in rw nothing refl
+
+pub down-here : (test : ℕ → Bool) (field : Field) (numbered : Bool) (report : List ℕ) (j n : ℕ) → j < n → is_one test (down_usage field numbered report j) ≡ true
+    → list_any test (down_from field numbered report j (n - j)) ≡ true
+down-here test field numbered report j n h e =
+    rw (down_from-more field numbered report j n h) (one-true test (down_usage field numbered report j) (down_from field numbered report (j + 1) (n - (j + 1))) e)
+
+pub down-later : (test : ℕ → Bool) (field : Field) (numbered : Bool) (report : List ℕ) (j n : ℕ) → j < n → is_one test (down_usage field numbered report j) ≡ false
+    → list_any test (down_from field numbered report j (n - j)) ≡ list_any test (down_from field numbered report (j + 1) (n - (j + 1)))
+down-later test field numbered report j n h e =
+    rw (down_from-more field numbered report j n h) (one-false test (down_usage field numbered report j) (down_from field numbered report (j + 1) (n - (j + 1))) e)
+
+pub down-end : (test : ℕ → Bool) (field : Field) (numbered : Bool) (report : List ℕ) (j n : ℕ) → n ≤ j
+    → list_any test (down_from field numbered report j (n - j)) ≡ false
+unfolding down_from
+down-end test field numbered report j n h = let nothing : n - j ≡ 0 = omega arith in rw nothing refl
+
+pub press-none : (keys : List Bool) (field : Field) (numbered : Bool) (report : List ℕ) (j n : ℕ) → j < n → down_usage field numbered report j ≡ None
+    → press_all keys (down_from field numbered report j (n - j)) ≡ press_all keys (down_from field numbered report (j + 1) (n - (j + 1)))
+press-none keys field numbered report j n h e = rw (down_from-more field numbered report j n h, e) refl
+
+pub press-some : (keys : List Bool) (field : Field) (numbered : Bool) (report : List ℕ) (j n usage : ℕ) → j < n → down_usage field numbered report j ≡ Some usage
+    → press_all keys (down_from field numbered report j (n - j)) ≡ press_all (press keys usage) (down_from field numbered report (j + 1) (n - (j + 1)))
+unfolding press_all
+press-some keys field numbered report j n usage h e = rw (down_from-more field numbered report j n h, e) refl
+
+pub press-end : (keys : List Bool) (field : Field) (numbered : Bool) (report : List ℕ) (j n : ℕ) → n ≤ j
+    → press_all keys (down_from field numbered report j (n - j)) ≡ keys
+unfolding down_from press_all
+press-end keys field numbered report j n h = let nothing : n - j ≡ 0 = omega arith in rw nothing refl
+
+pub ruleset element_steps = (any-here, any-later, any-end, find-here, find-later, find-end, down-here, down-later, down-end, press-none, press-some, press-end)

@@ -1,0 +1,12 @@
+pub mod Items
+pub mod Globals
+pub mod Usages
+pub mod Bits
+pub mod Fields
+pub mod Faults
+pub mod State
+pub mod Elements
+pub mod Reading
+pub mod Wanted
+pub mod Keys
+pub mod Pointer

@@ -1,0 +1,27 @@
+//! Report descriptors of HID 1.11, and the reports that they describe.
+//!
+//! `read_layout` reads a report descriptor in one pass. A `Layout` then reads key reports into a `KeySet`
+//! and pointer reports into a `Sample`. Nothing here takes memory.
+#![tactic(auto)]
+
+mod bit_size;
+mod element;
+mod fault;
+mod field;
+mod globals;
+mod item;
+mod keys;
+mod layout;
+mod number;
+mod page;
+mod pass;
+mod pointer;
+mod read;
+mod report_form;
+#[cfg(test)]
+mod tests;
+mod usage;
+
+pub use fault::{LayoutFault, LayoutWhy};
+pub use layout::Layout;
+pub use read::read_layout;
