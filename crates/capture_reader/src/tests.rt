@@ -3,8 +3,8 @@ ghost use Rattle.std.specs.Prelude.{◌≤◌};
 
 use super::*;
 use psd_base::{
-    Act, CaptureFault, Desk, DeskFailed, Event, Input, Outlet, Packet, PortId, Setup, Side, Stop,
-    What,
+    Act, CaptureFault, Desk, DeskFailed, EVENTS_MAX, Event, Input, Outlet, Packet, PortId, Setup,
+    Side, Stop, What,
 };
 use std::alloc::Global;
 use std::test::Fail;

@@ -5,13 +5,11 @@
 //! | SIDE | `KM`, `UA` |
 //! | ACT | `RESET`; `SETUP ADDRESS BYTES`; `OUT ADDRESS ENDPOINT TOGGLE BYTES`; `IN ADDRESS ENDPOINT ACKED` |
 //! | ANSWER | `ACK`; `NAK`; `STALL`; `SILENT`; `DATA TOGGLE BYTES` |
-ghost use Rattle.std.specs.Prelude.{◌≡◌, ◌+◌, ◌≤◌, length, ◌++◌};
+ghost use Rattle.std.specs.Prelude.{◌≡◌, ◌+◌, ◌≤◌, length, ◌++◌, codes};
 ghost use Rattle.arrayvec.specs.ArrayVec.{array_vec_len};
 ghost use Rattle.port_transcript.specs.PortLine.{act_text, answer_text, line_text, side_text};
 
-use crate::text::{
-    TEXT_SIZE, Text, append, append_bytes, append_digits, append_flag, append_number,
-};
+use crate::text::{TEXT_SIZE, Text, append, append_bytes, append_digits, append_number};
 use psd_base::{Act, Answer, Line, Side};
 
 #[cfg(test)]
@@ -20,14 +18,14 @@ mod tests;
 /// The most bytes that a line of a port has, its line feed included.
 pub const PORT_LINE_SIZE: usize = 296;
 
-/// The bytes of a side's name.
-const SIDE_SIZE: usize = 2;
+/// The bytes of a side's name and of a blank on each side.
+const SIDE_SIZE: usize = 4;
 
 /// The most bytes of an act, those of an OUT of `PACKET_SIZE` bytes.
 const ACT_SIZE: usize = 142;
 
-/// The most bytes of an answer, those of `PACKET_SIZE` bytes of data.
-const ANSWER_SIZE: usize = 135;
+/// The most bytes from the arrow to the line feed, where the answer is `PACKET_SIZE` bytes of data.
+const REPLY_SIZE: usize = 140;
 
 /// Appends the line. There is room for the longest, of `PORT_LINE_SIZE` bytes.
 #[tactic(auto, unfolding(crate::specs::PortLine::line_text))]
@@ -37,13 +35,9 @@ pub fn write_port_line(line: &Line, text: &mut Text)
     ensures len { array_vec_len text.new ≤ array_vec_len text.old + PORT_LINE_SIZE }
 {
     append_number(text, line.tick);
-    append(text, b" ");
-    append(text, side_name(line.side));
-    append(text, b" ");
+    append(text, side_between_blanks(line.side));
     append_act(text, &line.act);
-    append(text, b" -> ");
-    append_answer(text, &line.answer);
-    append(text, b"\n");
+    append_reply(text, &line.answer);
 }
 
 /// The line in a fresh text.
@@ -56,14 +50,15 @@ pub fn port_line(line: &Line) -> Text
     text
 }
 
+/// The side's name, with a blank on each side.
 #[tactic(auto, unfolding(crate::specs::PortLine::side_text))]
-fn side_name(side: Side) -> &'static [u8]
-    ensures name { result.now ≡ side_text side }
+fn side_between_blanks(side: Side) -> &'static [u8]
+    ensures name { result.now ≡ codes " " ++ side_text side ++ codes " " }
     ensures len { length result.now ≡ SIDE_SIZE }
 {
     match side {
-        Side::Km => b"KM",
-        Side::Ua => b"UA",
+        Side::Km => b" KM ",
+        Side::Ua => b" UA ",
     }
 }
 
@@ -91,9 +86,7 @@ fn append_act(text: &mut Text, act: &Act)
             append_number(text, *address);
             append(text, b" ");
             append_number(text, *endpoint);
-            append(text, b" ");
-            append_flag(text, *toggle);
-            append(text, b" ");
+            append(text, if *toggle { b" 1 " } else { b" 0 " });
             append_bytes(text, bytes);
         }
         Act::In {
@@ -105,28 +98,34 @@ fn append_act(text: &mut Text, act: &Act)
             append_number(text, *address);
             append(text, b" ");
             append_number(text, *endpoint);
-            append(text, b" ");
-            append_flag(text, *acked);
+            append(text, if *acked { b" 1" } else { b" 0" });
         }
     }
 }
 
+/// Appends the arrow, the answer and the line feed.
 #[tactic(auto, unfolding(crate::specs::PortLine::answer_text))]
-fn append_answer(text: &mut Text, answer: &Answer)
-    requires { array_vec_len text.old + ANSWER_SIZE ≤ TEXT_SIZE }
-    ensures items { text.new.items ≡ text.old.items ++ answer_text answer.now }
-    ensures len { array_vec_len text.new ≤ array_vec_len text.old + ANSWER_SIZE }
+fn append_reply(text: &mut Text, answer: &Answer)
+    requires { array_vec_len text.old + REPLY_SIZE ≤ TEXT_SIZE }
+    ensures items { text.new.items ≡ text.old.items ++ codes " -> " ++ answer_text answer.now ++ codes "\n" }
+    ensures len { array_vec_len text.new ≤ array_vec_len text.old + REPLY_SIZE }
 {
     match answer {
-        Answer::Ack => append(text, b"ACK"),
-        Answer::Nak => append(text, b"NAK"),
-        Answer::Stall => append(text, b"STALL"),
-        Answer::Silent => append(text, b"SILENT"),
+        Answer::Ack => append(text, b" -> ACK\n"),
+        Answer::Nak => append(text, b" -> NAK\n"),
+        Answer::Stall => append(text, b" -> STALL\n"),
+        Answer::Silent => append(text, b" -> SILENT\n"),
         Answer::Data { toggle, bytes } => {
-            append(text, b"DATA ");
-            append_flag(text, *toggle);
-            append(text, b" ");
+            append(
+                text,
+                if *toggle {
+                    b" -> DATA 1 "
+                } else {
+                    b" -> DATA 0 "
+                },
+            );
             append_bytes(text, bytes);
+            append(text, b"\n");
         }
     }
 }

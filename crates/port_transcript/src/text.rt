@@ -2,7 +2,7 @@
 ghost use Rattle.std.specs.Prelude.{◌≡◌, ℕ, ◌+◌, ◌*◌, ◌≤◌, length, ◌++◌};
 ghost use Rattle.arrayvec.specs.ArrayVec.{array_vec_len};
 ghost use Rattle.hex.specs.Hex.{encode_lower};
-ghost use Rattle.port_transcript.specs.Text.{bytes_text, flag_text};
+ghost use Rattle.port_transcript.specs.Text.{bytes_text};
 
 use arrayvec::ArrayVec;
 use itoa::{Buffer, Integer};
@@ -32,15 +32,6 @@ pub fn append_number<I: Integer>(text: &mut Text, number: I)
 {
     let mut buffer = Buffer::new();
     append(text, buffer.format(number).as_bytes());
-}
-
-/// Appends 1 for true and 0 for false. There is room for it.
-pub(crate) fn append_flag(text: &mut Text, flag: bool)
-    requires { array_vec_len text.old + 1 ≤ TEXT_SIZE }
-    ensures items { text.new.items ≡ text.old.items ++ flag_text flag }
-    ensures len { array_vec_len text.new ≡ array_vec_len text.old + 1 }
-{
-    append(text, if flag { b"1" } else { b"0" });
 }
 
 /// Appends the hexadecimal digits of at most `PACKET_SIZE` bytes. There is room for them.

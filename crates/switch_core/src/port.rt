@@ -28,6 +28,7 @@ impl Port {
         }
     }
 
+    #[inline(never)]
     /// Answers one act of the port's computer.
     pub fn answer(&mut self, tick: Tick, side: Side, act: &Act) -> Answer
         ensures stands { (past : List Item) → PortStands self.old past
