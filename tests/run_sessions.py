@@ -3,9 +3,11 @@
 
     run_sessions.py PROGRAM [SESSION ...]
 
-A session is a folder of tests/sessions. Its file `words` has the words behind the program's name, one a line; the folder
-`expect` has the exit status as `status`, standard output as `report`, standard error as `faults`, files by their names, and
-in `absent` the names of files that must not be there. All other files are inputs. The last line is 'N passed, N failed'.
+A session is a folder of tests/sessions. Its file `words` has the words behind the program's name, one a line; its file
+`inputs`, where there is one, names inputs elsewhere in the repository by their paths from its top, one a line. All other
+files are inputs. The folder `expect` has the exit status as `status`, standard output as `report`, standard error as
+`faults`, and each file that the program writes by its name: it must write these and no others, with these bytes.
+The last line is 'N passed, N failed'.
 """
 import pathlib
 import shutil
@@ -13,33 +15,44 @@ import subprocess
 import sys
 import tempfile
 
-SESSIONS = pathlib.Path(__file__).resolve().parent / "sessions"
+TOP = pathlib.Path(__file__).resolve().parent.parent
+SESSIONS = TOP / "tests" / "sessions"
 SECONDS = 60
+
+
+def lines_of(file):
+    return file.read_text().split("\n")[:-1]
+
+
+def inputs_of(session):
+    """The files that lie in the folder of the run when the program begins."""
+    own = [it for it in session.iterdir() if it.is_file() and it.name not in ("words", "inputs")]
+    named = session / "inputs"
+    return own + [TOP / it for it in lines_of(named)] if named.exists() else own
 
 
 def run(program, session, folder):
     """Runs the program in a folder with the session's inputs, and returns what it gave by name."""
-    for file in session.iterdir():
-        if file.is_file() and file.name != "words":
-            shutil.copy(file, folder)
-    words = (session / "words").read_text().split("\n")[:-1]
+    inputs = inputs_of(session)
+    for file in inputs:
+        shutil.copy(file, folder)
+    words = lines_of(session / "words")
     done = subprocess.run([program, *words], cwd=folder, stdin=subprocess.DEVNULL, capture_output=True, timeout=SECONDS)
-    given = {file.name: file.read_bytes() for file in folder.iterdir()}
+    before = {it.name for it in inputs}
+    given = {file.name: file.read_bytes() for file in folder.iterdir() if file.name not in before}
     return given | {"status": b"%d\n" % done.returncode, "report": done.stdout, "faults": done.stderr}
 
 
 def difference(expect, given):
     """Says where what was given is not what is expected, if it is not."""
-    for file in sorted(expect.iterdir()):
-        want = file.read_bytes()
-        if file.name == "absent":
-            there = [name for name in want.decode().split() if name in given]
-            if there:
-                return f"{there[0]} is there"
-        elif file.name not in given:
-            return f"{file.name} is not there"
-        elif given[file.name] != want:
-            return f"{file.name} is {given[file.name][:200]!r}, not {want[:200]!r}"
+    wanted = {file.name: file.read_bytes() for file in expect.iterdir()}
+    for name in sorted(wanted.keys() | given.keys()):
+        if name not in given:
+            return f"{name} was not written"
+        if name not in wanted:
+            return f"{name} was written"
+        if given[name] != wanted[name]:
+            return f"{name} is {given[name][:200]!r}, not {wanted[name][:200]!r}"
     return None
 
 
@@ -55,10 +68,12 @@ def passes(program, session):
 
 
 def main():
+    if len(sys.argv) < 2:
+        sys.exit(__doc__)
     program = str(pathlib.Path(sys.argv[1]).resolve())
-    sessions = sorted(it for it in SESSIONS.iterdir() if it.is_dir() and (len(sys.argv) < 3 or it.name in sys.argv[2:]))
-    passed = sum(passes(program, it) for it in sessions)
-    failed = len(sessions) - passed
+    names = sys.argv[2:] or sorted(it.name for it in SESSIONS.iterdir() if it.is_dir())
+    passed = sum(passes(program, SESSIONS / it) for it in names)
+    failed = len(names) - passed
     print(f"{passed} passed, {failed} failed")
     return 0 if passed and not failed else 1
 

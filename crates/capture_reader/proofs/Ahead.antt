@@ -6,7 +6,7 @@ use Rattle.psd_base.specs.declared.stop.CaptureFault.TheVariants.{Truncated}
 use Rattle.psd_base.specs.declared.stop.Stop.{Stop}
 use Rattle.psd_base.specs.declared.stop.Stop.TheVariants as stops
 use Rattle.psd_base.specs.declared.event.Event.{Event}
-use Rattle.psd_base.specs.Event.{Happening, Seen, seen}
+use Rattle.psd_base.specs.Event.{Happening, HappensWithin, Seen, happening_of, seen}
 use Rattle.capture_reader.specs.declared.form.Form.{Form}
 use Rattle.capture_reader.specs.declared.form.Head.{Head}
 use Rattle.capture_reader.specs.Capture.{Recording, first, none_until, head_of, size_of, payload_of, announced, happening_in, record_at, records}
@@ -166,3 +166,19 @@ pub nothing_ahead : (ahead : Option Event) (recording : Option Recording) → ah
 nothing_ahead None None none = refl
 nothing_ahead None (Some recording) none = refl
 nothing_ahead (Some event) recording none = absurd (cc)
+
+-- the event of a whole record is in its place
+pub record_taken : (place : Option Event) (ports last offset : ℕ) (held held_after : Held) (head : Head) (form : Form) → Announces ports last held.bytes head form
+    → size_of head ≤ length held.bytes → held_after ≡ record held { bytes = drop (size_of head) held.bytes }
+    → IsSomeAnd place (λ event. (event.tick ≡ head.tick) × (happening_in form (slice_range held.bytes 8 (size_of head)) ≡ Ok (happening_of event.what)))
+    → IfSome place (λ event. HappensWithin ports (happening_of event.what))
+    → IsSomeAnd place (λ event. ((event.tick ≡ head.tick) × HappensWithin ports (seen event).happening)
+    × ((left : List ℕ) → records ports last offset 0 (coming held left) ≡ first (seen event) (records ports head.tick (offset + size_of head) 0 (coming held_after left))))
+record_taken None ports last offset held held_after head form sound enough same valid within = absurd valid
+record_taken (Some event) ports last offset held held_after head form sound enough same valid within = (
+  (valid.0, within),
+  λ left.
+      moves_on ports last offset held head form (happening_of event.what) sound enough valid.1 left
+      ∙ ap (λ (after : Held). first (record { tick = head.tick; happening = happening_of event.what }) (records ports head.tick (offset + size_of head) 0 (coming after left))) (sym same)
+      ∙ ap (λ tick. first (record { tick = tick; happening = happening_of event.what }) (records ports head.tick (offset + size_of head) 0 (coming held_after left))) (sym valid.0),
+)

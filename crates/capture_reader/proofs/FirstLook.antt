@@ -1,93 +1,152 @@
 -- What is to come at the beginning.
-use Rattle.std.proofs.Common.{◌≡◌, ◌≢◌, ℕ, zero, suc, ◌-◌, ◌≤◌, List, ◌∷◌, Option, Some, None, option_map, IfSome, IfNone, Ok, Err, inl, inr, refl, sym, ap, ◌∙◌, subst, arith}
-use Rattle.std.proofs.lemmas.Option.{same_Some}
-use Rattle.psd_base.specs.declared.event.Event.{Event}
+use Rattle.std.proofs.Common.{◌≡◌, ◌≢◌, ℕ, zero, suc, ◌-◌, ◌≤◌, false, List, [], drop, Option, Some, None, option_map, IfSome, IfNone, Ok, Err, inl, inr, refl, sym, ap, ◌∙◌, subst, arith}
+use Rattle.std.proofs.lemmas.Option.{MatchOption-at_none, same_Some}
+use Rattle.psd_base.specs.declared.outlet.Input.{Input}
 use Rattle.psd_base.specs.declared.outlet.Input.TheVariants as inputs
-use Rattle.psd_base.specs.declared.stop.CaptureFault.{CaptureFault}
 use Rattle.psd_base.specs.declared.stop.Stop.{Stop}
 use Rattle.psd_base.specs.declared.stop.Stop.TheVariants as stops
 use Rattle.psd_base.specs.Desk.{Rose}
 use Rattle.psd_base.specs.Event.{Seen, seen}
-use Rattle.capture_reader.specs.declared.progress.State.TheVariants.{Waiting, Given}
+use Rattle.capture_reader.specs.declared.next.Next.TheVariants as nexts
+use Rattle.capture_reader.specs.declared.progress.State.TheVariants.{Waiting}
+use Rattle.capture_reader.specs.declared.script.ScriptSource.{ScriptSource}
 use Rattle.capture_reader.specs.declared.source.CaptureSource.{CaptureSource}
-use Rattle.capture_reader.specs.Capture.{Recording, first, none_until, header, records, capture}
-use Rattle.capture_reader.specs.Progress.{reading}
-use Rattle.capture_reader.specs.Reader.{upcoming, rest, IsOver, NewFailed}
-use Rattle.capture_reader.specs.Schedule.{Schedule, over, cut, cut_recording, schedule, port_count}
-use Rattle.capture_reader.specs.Source.{later, Ends, LookFailed, OpenFailed}
-use Rattle.capture_reader.specs.Window.{coming}
+use Rattle.capture_reader.specs.Capture.{Recording, first, none_until, header, records}
+use Rattle.capture_reader.specs.Lines.{later_lines, lines_with_ahead, LinesEnd, LineLookFailed}
+use Rattle.capture_reader.specs.Merge.{merge}
+use Rattle.capture_reader.specs.Progress.{reading, next_of}
+use Rattle.capture_reader.specs.Reader.{records_to_come, lines_to_come, upcoming, rest, IsLooked, IsOver, NewFailed}
+use Rattle.capture_reader.specs.Schedule.{Schedule, over, cut, cut_recording, merged, schedule, schedule_told, port_count}
+use Rattle.capture_reader.specs.Script.{lines, script}
+use Rattle.capture_reader.specs.Source.{later, after_ahead, Ends, LookFailed, OpenFailed}
+use Rattle.capture_reader.specs.Window.{Held, coming, still}
 use Rattle.capture_reader.proofs.Ahead.{later_ends}
-use Rattle.capture_reader.proofs.Upcoming.{rest_by_later, shows_end}
+use Rattle.capture_reader.proofs.Merging.{record_step, line_step, end_step, capture_over, script_over, cut_over, none_weaker, none_seen, of_some}
+use Rattle.capture_reader.proofs.Upcoming.{rest_is, shows_end}
 
--- before the first look all records are to come
-pub rest_first : (source : CaptureSource) (limit : ℕ) (left : Option (List ℕ)) → source.tick ≡ 0 → source.offset ≡ 8
-    → rest (reading (record { capture = source; limit = limit; served = 0; state = Given })) left ≡ option_map (cut_recording limit) (later source.ports 0 8 source.window left)
-rest_first source limit left tick offset =
+-- behind the first looks what is to come is what was to come before
+pub rest_first : (capture : CaptureSource) (source : ScriptSource) (limit : ℕ) (before : Option Recording) (capture_left script_left : Option (List ℕ)) → source.ports ≡ capture.ports
+    → before ≡ option_map (after_ahead (option_map seen capture.ahead)) (later capture.ports capture.tick capture.offset capture.window capture_left)
+    → rest (reading (record { capture = capture; script = source; limit = limit; served = 0; tick = 0; state = Waiting })) capture_left script_left
+    ≡ merged limit before (lines_with_ahead source script_left)
+rest_first capture source limit before capture_left script_left ports read =
     let whole : limit - 0 ≡ limit = omega arith in
-    rest_by_later (reading (record { capture = source; limit = limit; served = 0; state = Given })) left
-    ∙ ap (λ n. option_map (cut_recording n) (later source.ports source.tick source.offset source.window left)) whole
-    ∙ ap (λ n. option_map (cut_recording limit) (later source.ports n source.offset source.window left)) tick
-    ∙ ap (λ n. option_map (cut_recording limit) (later source.ports 0 n source.window left)) offset
+    rest_is (reading (record { capture = capture; script = source; limit = limit; served = 0; tick = 0; state = Waiting })) capture_left script_left
+    ∙ ap (λ n. merged n (option_map (after_ahead (option_map seen capture.ahead)) (later capture.ports capture.tick capture.offset capture.window capture_left))
+    (option_map (after_ahead (option_map seen source.ahead)) (later_lines capture.ports source.tick source.line source.window script_left))) whole
+    ∙ ap (λ records. merged limit records (option_map (after_ahead (option_map seen source.ahead)) (later_lines capture.ports source.tick source.line source.window script_left))) (sym read)
+    ∙ ap (λ n. merged limit before (option_map (after_ahead (option_map seen source.ahead)) (later_lines n source.tick source.line source.window script_left))) (sym ports)
 
-over_stops : (first second : Option Stop) → Some (over first) ≡ Some (over second) → first ≡ second
-over_stops first second same = ap (λ (schedule : Schedule). schedule.stop) (same_Some (over first) (over second) same)
+over_stops : (one other : Option Stop) → Some (over one) ≡ Some (over other) → one ≡ other
+over_stops one other same = ap (λ (schedule : Schedule). schedule.stop) (same_Some (over one) (over other) same)
 
-cut_no_fault : (limit : ℕ) (event : Seen) (events : List Seen) (stop : Option Stop) (offset : ℕ) (why : CaptureFault)
-    → cut limit (event ∷ events) stop ≡ over (Some (stops.Capture offset why)) → ⊥
+cut_no_fault : (limit : ℕ) (event : Seen) (recording : Recording) (stop : Stop) → stop ≢ stops.TooLong → cut_recording limit (first event recording) ≡ over (Some stop) → ⊥
 unfolding cut
-cut_no_fault zero event events stop offset why same =
-    let stopped : Some stops.TooLong ≡ Some (stops.Capture offset why) = ap (λ (schedule : Schedule). schedule.stop) same in cc
-cut_no_fault (suc limit) event events stop offset why same =
+cut_no_fault zero event recording stop other same = other (same_Some stop stops.TooLong (sym (ap (λ (schedule : Schedule). schedule.stop) same)))
+cut_no_fault (suc limit) event recording stop other same =
     let none = ap (λ (schedule : Schedule). schedule.events) same in cc
 
-upcoming_first : (source : CaptureSource) (event : Event) (limit : ℕ) (left : List ℕ) → source.ahead ≡ Some event
-    → upcoming (reading (record { capture = source; limit = limit; served = 0; state = Waiting })) left
-    ≡ cut_recording (limit - 0) (first (seen event) (records source.ports source.tick source.offset 0 (coming source.window left)))
-unfolding upcoming
-upcoming_first source event limit left is = rw is refl
+-- behind looks that found no fault none comes at once
+no_fault : (capture : CaptureSource) (source : ScriptSource) (limit : ℕ) (capture_left script_left : Option (List ℕ))
+    → IfNone capture.ahead (Ends capture.ports capture.tick capture.offset capture.window None) → IfNone source.ahead (LinesEnd capture.ports source.tick source.line source.window None)
+    → (stop : Stop) → stop ≢ stops.TooLong
+    → rest (reading (record { capture = capture; script = source; limit = limit; served = 0; tick = 0; state = Waiting })) capture_left script_left ≢ Some (over (Some stop))
+unfolding rest upcoming records_to_come lines_to_come
+no_fault capture source limit None script_left records_end lines_end stop other same = cc
+no_fault capture source limit (Some capture_left) None records_end lines_end stop other same = cc
+no_fault capture source limit (Some capture_left) (Some script_left) records_end lines_end stop other same =
+    let told : Recording = records capture.ports capture.tick capture.offset 0 (coming capture.window capture_left) in
+    let said : Recording = lines capture.ports source.tick source.line 0 (coming source.window script_left) in
+    let over_at_once : cut_recording (limit - 0) (merge (after_ahead (option_map seen source.ahead) said) (after_ahead (option_map seen capture.ahead) told)) ≡ over (Some stop) =
+    same_Some _ _ same in
+    elim (next_of capture.ahead source.ahead) as (λ n. next_of capture.ahead source.ahead ≡ n → ⊥) [
+      | nexts.Record ↦ λ next. of_some (option_map seen capture.ahead) (λ event step. cut_no_fault (limit - 0) event _ stop other (sym (ap (cut_recording (limit - 0)) step) ∙ over_at_once))
+          (record_step capture.ahead source.ahead told said next (none_weaker source.ahead (λ all. all script_left) lines_end))
+      | nexts.Line ↦ λ next. of_some (option_map seen source.ahead) (λ event step. cut_no_fault (limit - 0) event _ stop other (sym (ap (cut_recording (limit - 0)) step) ∙ over_at_once))
+          (line_step capture.ahead source.ahead told said next (none_weaker capture.ahead (λ all. all capture_left) records_end))
+      | nexts.End ↦ λ next.
+          let none = end_step capture.ahead source.ahead next in
+          let shown = shows_end capture source limit 0 0 none.0 none.1 (MatchOption-at_none _ _ none.0 records_end) (MatchOption-at_none _ _ none.1 lines_end) capture_left script_left in
+          let stopped = over_stops None (Some stop) (ap Some (sym shown ∙ over_at_once)) in cc
+    ] refl
 
--- behind a look that found no fault there is no fault at once
-pub no_fault : (source : CaptureSource) (ahead : Option Event) (limit : ℕ) (left : Option (List ℕ)) → source.ahead ≡ ahead
-    → IfNone ahead (Ends source.ports source.tick source.offset source.window None)
-    → (offset : ℕ) (why : CaptureFault) → rest (reading (record { capture = source; limit = limit; served = 0; state = Waiting })) left ≢ Some (over (Some (stops.Capture offset why)))
-unfolding rest
-no_fault source ahead limit None is end offset why same = cc
-no_fault source None limit (Some left) is end offset why same =
-    let shown = shows_end source limit 0 Waiting None is end left in
-    let stopped = over_stops None (Some (stops.Capture offset why)) (ap Some (sym shown) ∙ same) in cc
-no_fault source (Some event) limit (Some left) is end offset why same =
-    let now = upcoming_first source event limit left is in
-    cut_no_fault (limit - 0) (seen event) _ _ offset why (sym now ∙ same_Some _ _ same)
+pub looked_first : (capture : CaptureSource) (source : ScriptSource) (limit : ℕ) (before : Option Schedule) (capture_left script_left : Option (List ℕ))
+    → IfNone capture.ahead (Ends capture.ports capture.tick capture.offset capture.window None) → IfNone source.ahead (LinesEnd capture.ports source.tick source.line source.window None)
+    → rest (reading (record { capture = capture; script = source; limit = limit; served = 0; tick = 0; state = Waiting })) capture_left script_left ≡ before → IsLooked before
+looked_first capture source limit before capture_left script_left records_end lines_end is = record {
+  no_capture_fault = λ offset why same. no_fault capture source limit capture_left script_left records_end lines_end (stops.Capture offset why) (λ equal. cc) (is ∙ same);
+  no_script_fault = λ line why same. no_fault capture source limit capture_left script_left records_end lines_end (stops.Script line why) (λ equal. cc) (is ∙ same);
+}
 
-over_of_later : (limit : ℕ) (recording : Option Recording) (stop : Option Stop) → IfSome recording (λ r. r ≡ none_until stop) → IsOver stop (option_map (cut_recording limit) recording)
-unfolding cut
-over_of_later limit None stop ends = tt
-over_of_later limit (Some recording) stop ends = ap (cut_recording limit) ends
+later_lines_end : (ports last number : ℕ) (held : Held) (stop : Option Stop) (left : Option (List ℕ)) → LinesEnd ports last number held stop
+    → IfSome (later_lines ports last number held left) (λ recording. recording ≡ none_until stop)
+unfolding later_lines still
+later_lines_end ports last number held stop None ends = tt
+later_lines_end ports last number held stop (Some left) ends = ends left
 
--- the first look failed
-pub look_failed : (source : CaptureSource) (limit faults faults_after : ℕ) (before : Option Recording) (left : Option (List ℕ)) (stop : Stop)
-    → later source.ports source.tick source.offset source.window left ≡ before
-    → LookFailed source.ports source.tick source.offset source.window faults faults_after stop
-    → NewFailed (option_map (cut_recording limit) before) faults faults_after ⊥ stop
-look_failed source limit faults faults_after before left stops.Usage same failed = failed
-look_failed source limit faults faults_after before left (stops.Rules why) same failed = failed
-look_failed source limit faults faults_after before left (stops.Capture offset why) same failed =
-    over_of_later limit before (Some (stops.Capture offset why))
+merged_over-capture : (limit : ℕ) (told said : Option Recording) (ahead : Option Seen) (stop : Stop) → IfSome told (λ recording. recording ≡ none_until (Some stop))
+    → IfNone ahead (IfSome said (λ recording. recording ≡ none_until None)) → IsOver (Some stop) (merged limit told (option_map (after_ahead ahead) said))
+merged_over-capture limit None said ahead stop ends none = tt
+merged_over-capture limit (Some told) None ahead stop ends none = tt
+merged_over-capture limit (Some told) (Some said) ahead stop ends none = cut_over limit _ (Some stop) (capture_over ahead told said stop ends none)
+
+merged_over-script : (limit : ℕ) (told said : Option Recording) (stop : Stop) → IfSome said (λ recording. recording ≡ none_until (Some stop)) → IsOver (Some stop) (merged limit told said)
+merged_over-script limit None said stop ends = tt
+merged_over-script limit (Some told) None stop ends = tt
+merged_over-script limit (Some told) (Some said) stop ends = cut_over limit _ (Some stop) (script_over told said stop ends)
+
+-- the first look at the capture failed
+pub capture_failed : (capture : CaptureSource) (source : ScriptSource) (limit : ℕ) (before : Option Recording) (left script_left : Option (List ℕ)) (reads reads_after : Input → ℕ) (stop : Stop)
+    → later capture.ports capture.tick capture.offset capture.window left ≡ before → IfNone source.ahead (LinesEnd source.ports source.tick source.line source.window None)
+    → LookFailed capture.ports capture.tick capture.offset capture.window (reads inputs.Capture) (reads_after inputs.Capture) stop
+    → NewFailed (merged limit before (lines_with_ahead source script_left)) reads reads_after ⊥ stop
+capture_failed capture source limit before left script_left reads reads_after stops.Usage same lines_end failed = failed
+capture_failed capture source limit before left script_left reads reads_after (stops.Rules why) same lines_end failed = failed
+capture_failed capture source limit before left script_left reads reads_after (stops.Capture offset why) same lines_end failed =
+    merged_over-capture limit before (later_lines source.ports source.tick source.line source.window script_left) (option_map seen source.ahead) (stops.Capture offset why)
     (subst (λ (recording : Option Recording). IfSome recording (λ r. r ≡ none_until (Some (stops.Capture offset why)))) same
-    (later_ends source.ports source.tick source.offset source.window (Some (stops.Capture offset why)) left failed))
-look_failed source limit faults faults_after before left (stops.Script line why) same failed = failed
-look_failed source limit faults faults_after before left stops.TooLong same failed = failed
-look_failed source limit faults faults_after before left (stops.ReadFault inputs.Rules) same failed = failed
-look_failed source limit faults faults_after before left (stops.ReadFault inputs.Capture) same failed = failed.0
-look_failed source limit faults faults_after before left (stops.ReadFault inputs.Script) same failed = failed
-look_failed source limit faults faults_after before left (stops.WriteFault outlet) same failed = failed
-look_failed source limit faults faults_after before left stops.OutOfMemory same failed = failed
+    (later_ends capture.ports capture.tick capture.offset capture.window (Some (stops.Capture offset why)) left failed))
+    (none_seen _ source.ahead (none_weaker source.ahead (later_lines_end source.ports source.tick source.line source.window None script_left) lines_end))
+capture_failed capture source limit before left script_left reads reads_after (stops.Script line why) same lines_end failed = absurd failed
+capture_failed capture source limit before left script_left reads reads_after stops.TooLong same lines_end failed = failed
+capture_failed capture source limit before left script_left reads reads_after (stops.ReadFault inputs.Rules) same lines_end failed = failed
+capture_failed capture source limit before left script_left reads reads_after (stops.ReadFault inputs.Capture) same lines_end failed = failed.0
+capture_failed capture source limit before left script_left reads reads_after (stops.ReadFault inputs.Script) same lines_end failed = absurd failed
+capture_failed capture source limit before left script_left reads reads_after (stops.WriteFault outlet) same lines_end failed = failed
+capture_failed capture source limit before left script_left reads reads_after stops.OutOfMemory same lines_end failed = failed
+
+-- the first look at the script failed
+pub script_failed : (source : ScriptSource) (limit : ℕ) (told before : Option Recording) (left : Option (List ℕ)) (reads reads_after : Input → ℕ) (stop : Stop)
+    → later_lines source.ports source.tick source.line source.window left ≡ before
+    → LineLookFailed source.ports source.tick source.line source.window (reads inputs.Script) (reads_after inputs.Script) stop
+    → NewFailed (merged limit told before) reads reads_after ⊥ stop
+script_failed source limit told before left reads reads_after stops.Usage same failed = failed
+script_failed source limit told before left reads reads_after (stops.Rules why) same failed = failed
+script_failed source limit told before left reads reads_after (stops.Capture offset why) same failed = absurd failed
+script_failed source limit told before left reads reads_after (stops.Script line why) same failed =
+    merged_over-script limit told before (stops.Script line why)
+    (subst (λ (recording : Option Recording). IfSome recording (λ r. r ≡ none_until (Some (stops.Script line why)))) same
+    (later_lines_end source.ports source.tick source.line source.window (Some (stops.Script line why)) left failed))
+script_failed source limit told before left reads reads_after stops.TooLong same failed = failed
+script_failed source limit told before left reads reads_after (stops.ReadFault inputs.Rules) same failed = failed
+script_failed source limit told before left reads reads_after (stops.ReadFault inputs.Capture) same failed = absurd failed
+script_failed source limit told before left reads reads_after (stops.ReadFault inputs.Script) same failed = failed.0
+script_failed source limit told before left reads reads_after (stops.WriteFault outlet) same failed = failed
+script_failed source limit told before left reads reads_after stops.OutOfMemory same failed = failed
 
 -- the schedule of the bytes that were left
-pub schedules : (limit : ℕ) (left : Option (List ℕ)) → option_map (cut_recording limit) (option_map capture left) ≡ option_map (schedule limit) left
+pub schedules : (limit ports : ℕ) (capture_left script_left : Option (List ℕ)) → IfSome capture_left (λ bytes. header bytes ≡ Ok ports)
+    → merged limit (option_map (λ bytes. records ports 0 8 0 (drop 8 bytes)) capture_left) (option_map (script ports) script_left) ≡ schedule_told limit capture_left script_left
 unfolding schedule
-schedules limit None = refl
-schedules limit (Some left) = refl
+schedules limit ports None script_left told = refl
+schedules limit ports (Some bytes) None told = refl
+schedules limit ports (Some bytes) (Some script_bytes) told = rw (told, schedule) refl
+
+-- of a script of which nothing was read all lines are to come
+pub unread_script : (ports : ℕ) (left : Option (List ℕ)) → later_lines ports 0 1 (record { bytes = []; ended = false }) left ≡ option_map (script ports) left
+unfolding later_lines still script
+unread_script ports None = refl
+unread_script ports (Some left) = refl
 
 pub port_count_told : (left : Option (List ℕ)) (ports ports_after : ℕ) → ports_after ≡ ports → IfSome left (λ bytes. header bytes ≡ Ok ports)
     → IfSome left (λ bytes. port_count bytes ≡ ports_after)
@@ -95,39 +154,40 @@ unfolding port_count
 port_count_told None ports ports_after same told = tt
 port_count_told (Some bytes) ports ports_after same told = rw (told, port_count) (sym same)
 
-over_of_header : (limit : ℕ) (left : Option (List ℕ)) (stop : Stop) → IfSome left (λ bytes. header bytes ≡ Err stop) → IsOver (Some stop) (option_map (schedule limit) left)
-unfolding schedule capture cut
-over_of_header limit None stop faulty = tt
-over_of_header limit (Some bytes) stop faulty = rw (faulty, schedule, capture) refl
+over_of_header : (limit : ℕ) (left script_left : Option (List ℕ)) (stop : Stop) → IfSome left (λ bytes. header bytes ≡ Err stop) → IsOver (Some stop) (schedule_told limit left script_left)
+unfolding schedule
+over_of_header limit None script_left stop faulty = tt
+over_of_header limit (Some bytes) None stop faulty = tt
+over_of_header limit (Some bytes) (Some script_bytes) stop faulty = rw (faulty, schedule) refl
 
 -- the header couldn't be read
-pub open_is_new : (limit faults faults_after : ℕ) (left : Option (List ℕ)) (stop : Stop) → OpenFailed left faults faults_after stop
-    → NewFailed (option_map (schedule limit) left) faults faults_after ⊥ stop
-open_is_new limit faults faults_after left stops.Usage failed = failed
-open_is_new limit faults faults_after left (stops.Rules why) failed = failed
-open_is_new limit faults faults_after left (stops.Capture offset why) failed = over_of_header limit left (stops.Capture offset why) failed
-open_is_new limit faults faults_after left (stops.Script line why) failed = failed
-open_is_new limit faults faults_after left stops.TooLong failed = failed
-open_is_new limit faults faults_after left (stops.ReadFault inputs.Rules) failed = failed
-open_is_new limit faults faults_after left (stops.ReadFault inputs.Capture) failed = failed
-open_is_new limit faults faults_after left (stops.ReadFault inputs.Script) failed = failed
-open_is_new limit faults faults_after left (stops.WriteFault outlet) failed = failed
-open_is_new limit faults faults_after left stops.OutOfMemory failed = failed
+pub open_is_new : (limit : ℕ) (left script_left : Option (List ℕ)) (reads reads_after : Input → ℕ) (stop : Stop) → OpenFailed left (reads inputs.Capture) (reads_after inputs.Capture) stop
+    → NewFailed (schedule_told limit left script_left) reads reads_after ⊥ stop
+open_is_new limit left script_left reads reads_after stops.Usage failed = failed
+open_is_new limit left script_left reads reads_after (stops.Rules why) failed = failed
+open_is_new limit left script_left reads reads_after (stops.Capture offset why) failed = over_of_header limit left script_left (stops.Capture offset why) failed
+open_is_new limit left script_left reads reads_after (stops.Script line why) failed = absurd failed
+open_is_new limit left script_left reads reads_after stops.TooLong failed = failed
+open_is_new limit left script_left reads reads_after (stops.ReadFault inputs.Rules) failed = failed
+open_is_new limit left script_left reads reads_after (stops.ReadFault inputs.Capture) failed = failed
+open_is_new limit left script_left reads reads_after (stops.ReadFault inputs.Script) failed = absurd failed
+open_is_new limit left script_left reads reads_after (stops.WriteFault outlet) failed = failed
+open_is_new limit left script_left reads reads_after stops.OutOfMemory failed = failed
 
 rose_since : (earlier before after : ℕ) → earlier ≤ before → Rose before after → Rose earlier after
 rose_since earlier before after ordered (inl above) = inl (omega arith)
 rose_since earlier before after ordered (inr last) = inr last
 
 -- a count that rose is above what it was earlier, too
-pub failed_since : (before : Option Schedule) (earlier faults faults_after : ℕ) (stop : Stop) → earlier ≤ faults → NewFailed before faults faults_after ⊥ stop
-    → NewFailed before earlier faults_after ⊥ stop
-failed_since before earlier faults faults_after stops.Usage ordered failed = failed
-failed_since before earlier faults faults_after (stops.Rules why) ordered failed = failed
-failed_since before earlier faults faults_after (stops.Capture offset why) ordered failed = failed
-failed_since before earlier faults faults_after (stops.Script line why) ordered failed = failed
-failed_since before earlier faults faults_after stops.TooLong ordered failed = failed
-failed_since before earlier faults faults_after (stops.ReadFault inputs.Rules) ordered failed = failed
-failed_since before earlier faults faults_after (stops.ReadFault inputs.Capture) ordered failed = rose_since earlier faults faults_after ordered failed
-failed_since before earlier faults faults_after (stops.ReadFault inputs.Script) ordered failed = failed
-failed_since before earlier faults faults_after (stops.WriteFault outlet) ordered failed = failed
-failed_since before earlier faults faults_after stops.OutOfMemory ordered failed = failed
+pub failed_since : (before : Option Schedule) (earlier reads reads_after : Input → ℕ) (stop : Stop) → ((input : Input) → earlier input ≤ reads input)
+    → NewFailed before reads reads_after ⊥ stop → NewFailed before earlier reads_after ⊥ stop
+failed_since before earlier reads reads_after stops.Usage ordered failed = failed
+failed_since before earlier reads reads_after (stops.Rules why) ordered failed = failed
+failed_since before earlier reads reads_after (stops.Capture offset why) ordered failed = failed
+failed_since before earlier reads reads_after (stops.Script line why) ordered failed = failed
+failed_since before earlier reads reads_after stops.TooLong ordered failed = failed
+failed_since before earlier reads reads_after (stops.ReadFault inputs.Rules) ordered failed = failed
+failed_since before earlier reads reads_after (stops.ReadFault inputs.Capture) ordered failed = rose_since (earlier inputs.Capture) (reads inputs.Capture) (reads_after inputs.Capture) (ordered inputs.Capture) failed
+failed_since before earlier reads reads_after (stops.ReadFault inputs.Script) ordered failed = rose_since (earlier inputs.Script) (reads inputs.Script) (reads_after inputs.Script) (ordered inputs.Script) failed
+failed_since before earlier reads reads_after (stops.WriteFault outlet) ordered failed = failed
+failed_since before earlier reads reads_after stops.OutOfMemory ordered failed = failed

@@ -1,8 +1,13 @@
-pub mod Examples
 pub mod Ahead
 pub mod DeskReads
+pub mod Examples
 pub mod FirstLook
+pub mod FrontLines
+pub mod Merging
+pub mod Moves
 pub mod Opening
+pub mod Places
 pub mod Records
+pub mod ScriptLines
 pub mod Slices
 pub mod Upcoming

@@ -1,11 +1,11 @@
 -- What the header says, whatever comes behind it.
-use Rattle.std.proofs.Common.{◌≡◌, ℕ, ◌<◌, ◌≤◌, true, false, nat_lt, List, [], ◌++◌, length, drop, slice_index, Option, Some, None, option_map, IfSome, Result, Ok, Err, refl, sym, ap, ◌∙◌, subst, arith, length-append}
+use Rattle.std.proofs.Common.{◌≡◌, ℕ, ◌<◌, ◌≤◌, true, false, nat_lt, List, [], ◌++◌, length, drop, slice_index, Option, Some, None, option_map, IfSome, Result, Err, refl, sym, ap, ◌∙◌, subst, arith, length-append}
 use Rattle.std.proofs.lemmas.Bool.Decides.{nat_tests}
 use Rattle.std.proofs.lemmas.List.{get_or_append_left}
 use Rattle.psd_base.specs.declared.stop.CaptureFault.TheVariants.{Truncated}
 use Rattle.psd_base.specs.declared.stop.Stop.{Stop}
 use Rattle.psd_base.specs.declared.stop.Stop.TheVariants as stops
-use Rattle.capture_reader.specs.Capture.{header, records, capture}
+use Rattle.capture_reader.specs.Capture.{header, records}
 use Rattle.capture_reader.specs.Source.{later, IsCaptureStop, OpenFailed}
 use Rattle.capture_reader.specs.Window.{Held, coming, still}
 use Rattle.capture_reader.proofs.Ahead.{coming_is, coming_past, coming_ended}
@@ -47,14 +47,13 @@ header_cut held left None all ended short = subst (λ (told : Option (List ℕ))
 header_cut held left (Some after) all ended short =
     subst (λ (told : Option (List ℕ)). IfSome told (λ bytes. header bytes ≡ Err (stops.Capture 0 Truncated))) (sym all) (ap header (coming_ended held after ended) ∙ header-short held.bytes short)
 
-pub records_told : (held : Held) (left left_after : Option (List ℕ)) (ports : ℕ) → left ≡ option_map (coming held) left_after → 8 ≤ length held.bytes → header held.bytes ≡ Ok ports
-    → option_map capture left ≡ later ports 0 8 (record held { bytes = drop 8 held.bytes }) left_after
-unfolding later still capture
-records_told held left None ports all whole is = ap (λ (told : Option (List ℕ)). option_map capture told) all
-records_told held left (Some after) ports all whole is =
-    let whole_header : header (coming held after) ≡ Ok ports = header_of_coming held after whole ∙ is in
-    ap (λ (told : Option (List ℕ)). option_map capture told) all
-    ∙ rw (whole_header, capture) (ap (λ bytes. Some (records ports 0 8 0 bytes)) (coming_past held.bytes held.ended after 8 whole))
+pub records_told : (held : Held) (left left_after : Option (List ℕ)) (ports : ℕ) → left ≡ option_map (coming held) left_after → 8 ≤ length held.bytes
+    → option_map (λ bytes. records ports 0 8 0 (drop 8 bytes)) left ≡ later ports 0 8 (record held { bytes = drop 8 held.bytes }) left_after
+unfolding later still
+records_told held left None ports all whole = ap (option_map (λ bytes. records ports 0 8 0 (drop 8 bytes))) all
+records_told held left (Some after) ports all whole =
+    ap (option_map (λ bytes. records ports 0 8 0 (drop 8 bytes))) all
+    ∙ ap (λ bytes. Some (records ports 0 8 0 bytes)) (coming_past held.bytes held.ended after 8 whole)
 
 pub open_failed : (left : Option (List ℕ)) (faults faults_after : ℕ) (stop : Stop) → IsCaptureStop stop → IfSome left (λ bytes. header bytes ≡ Err stop) → OpenFailed left faults faults_after stop
 open_failed left faults faults_after stops.Usage is told = is

@@ -1,174 +1,356 @@
 -- What is to come after each step of a run.
-use Rattle.std.proofs.Common.{◌≡◌, ◌≢◌, ℕ, Bool, true, false, suc, ◌+◌, ◌-◌, ◌<◌, List, Option, Some, None, option_map, is_some, IsSome, IsSomeAnd, Result, Ok, refl, sym, ap, ◌∙◌, subst, arith}
+use Rattle.std.proofs.Common.{◌≡◌, ◌≢◌, ℕ, Bool, true, false, ◌+◌, ◌-◌, ◌<◌, List, Option, Some, None, option_map, IfNone, IfErr, Result, Ok, Err, refl, sym, ap, ◌∙◌, subst}
 use Rattle.std.proofs.lemmas.Option.{MatchOption-at_none}
 use Rattle.psd_base.specs.declared.event.Event.{Event}
-use Rattle.psd_base.specs.declared.stop.Stop.{Stop}
+use Rattle.psd_base.specs.declared.outlet.Input.{Input}
 use Rattle.psd_base.specs.declared.outlet.Input.TheVariants as inputs
+use Rattle.psd_base.specs.declared.stop.Stop.{Stop}
 use Rattle.psd_base.specs.declared.stop.Stop.TheVariants as stops
 use Rattle.psd_base.specs.declared.stop.Stop.TheVariants.{TooLong}
-use Rattle.psd_base.specs.Event.{Seen, seen}
+use Rattle.psd_base.specs.Event.{seen}
+use Rattle.capture_reader.specs.declared.next.Next.TheVariants as nexts
 use Rattle.capture_reader.specs.declared.progress.Progress.{Progress}
 use Rattle.capture_reader.specs.declared.progress.State.{State}
-use Rattle.capture_reader.specs.declared.progress.State.TheVariants.{Waiting, Given, Stopped}
+use Rattle.capture_reader.specs.declared.progress.State.TheVariants.{Waiting, GivenRecord, GivenLine, Stopped}
+use Rattle.capture_reader.specs.declared.script.ScriptSource.{ScriptSource}
 use Rattle.capture_reader.specs.declared.source.CaptureSource.{CaptureSource}
-use Rattle.capture_reader.specs.Capture.{Recording, first, records}
-use Rattle.capture_reader.specs.Progress.{reading, given_in, waiting_in, stop_in, Fits}
-use Rattle.capture_reader.specs.Reader.{Reading, upcoming, rest, IsAtEnd, IsOver, ShowsOver, StopsBecause}
-use Rattle.capture_reader.specs.Schedule.{Schedule, in_front, over, cut, cut_recording}
+use Rattle.capture_reader.specs.Capture.{Recording, none_until, records}
+use Rattle.capture_reader.specs.Lines.{later_lines, LinesEnd, LineLookFailed}
+use Rattle.capture_reader.specs.Progress.{reading, next_of, IsSound, LinesFit, RecordsFit, given_in, record_waiting, line_waiting, stop_in}
+use Rattle.capture_reader.specs.Reader.{Reading, records_to_come, lines_to_come, upcoming, rest, GivesNext, IsAtEnd, IsOver, ShowsOver, StopsBecause}
+use Rattle.capture_reader.specs.Schedule.{Schedule, cut_recording, merged}
+use Rattle.capture_reader.specs.Script.{lines}
 use Rattle.capture_reader.specs.Source.{later, after_ahead, Ends, LookFailed}
 use Rattle.capture_reader.specs.Window.{coming, still}
+use Rattle.capture_reader.proofs.Ahead.{some_and}
+use Rattle.capture_reader.proofs.Merging.{record_step, line_step, both_end, capture_over, script_over, cut_next, cut_full, cut_over, none_weaker, none_seen, of_some}
 
--- what is to come, by what the records say that are still to come
-pub rest_by_later : (reading : Reading) (left : Option (List ℕ)) → rest reading left
-    ≡ option_map (λ recording. cut_recording (reading.limit - reading.served) (after_ahead reading.ahead recording)) (later reading.ports reading.tick reading.offset reading.held left)
-unfolding rest upcoming later still
-rest_by_later reading None = refl
-rest_by_later reading (Some left) = refl
+-- what is to come, by what the records and the lines say that are still to come
+pub rest_is : (reading : Reading) (capture_left script_left : Option (List ℕ)) → rest reading capture_left script_left
+    ≡ merged (reading.limit - reading.served)
+    (option_map (after_ahead reading.capture.ahead) (later reading.ports reading.capture.tick reading.capture.place reading.capture.held capture_left))
+    (option_map (after_ahead reading.script.ahead) (later_lines reading.ports reading.script.tick reading.script.place reading.script.held script_left))
+unfolding rest upcoming records_to_come lines_to_come later later_lines still
+rest_is reading None script_left = refl
+rest_is reading (Some capture_left) None = refl
+rest_is reading (Some capture_left) (Some script_left) = refl
 
-fused : (limit : ℕ) (ahead : Option Seen) (recording : Option Recording)
-    → option_map (λ later. cut_recording limit (after_ahead ahead later)) recording ≡ option_map (cut_recording limit) (option_map (after_ahead ahead) recording)
-fused limit ahead None = refl
-fused limit ahead (Some recording) = refl
+pub nothing_before : (recording : Option Recording) → option_map (after_ahead None) recording ≡ recording
+nothing_before None = refl
+nothing_before (Some recording) = refl
 
--- a look leaves what is to come
-pub rest_looked : (now new : CaptureSource) (limit served : ℕ) (left left_after : Option (List ℕ))
+-- a look at a record leaves what is to come
+pub rest_record : (now new : CaptureSource) (script : ScriptSource) (limit served tick : ℕ) (left left_after script_left : Option (List ℕ)) → new.ports ≡ now.ports
     → later now.ports now.tick now.offset now.window left ≡ option_map (after_ahead (option_map seen new.ahead)) (later new.ports new.tick new.offset new.window left_after)
-    → rest (reading (record { capture = new; limit = limit; served = served; state = Waiting })) left_after
-    ≡ rest (reading (record { capture = now; limit = limit; served = served; state = Given })) left
-rest_looked now new limit served left left_after read =
-    rest_by_later (reading (record { capture = new; limit = limit; served = served; state = Waiting })) left_after
-    ∙ fused (limit - served) (option_map seen new.ahead) (later new.ports new.tick new.offset new.window left_after)
-    ∙ ap (option_map (cut_recording (limit - served))) (sym read)
-    ∙ sym (rest_by_later (reading (record { capture = now; limit = limit; served = served; state = Given })) left)
+    → rest (reading (record { capture = new; script = script; limit = limit; served = served; tick = tick; state = Waiting })) left_after script_left
+    ≡ rest (reading (record { capture = now; script = script; limit = limit; served = served; tick = tick; state = GivenRecord })) left script_left
+rest_record now new script limit served tick left left_after script_left ports read =
+    let lines_after : ℕ → Option Recording = λ n. option_map (after_ahead (option_map seen script.ahead)) (later_lines n script.tick script.line script.window script_left) in
+    rest_is (reading (record { capture = new; script = script; limit = limit; served = served; tick = tick; state = Waiting })) left_after script_left
+    ∙ ap (λ records. merged (limit - served) records (lines_after new.ports)) (sym read ∙ sym (nothing_before (later now.ports now.tick now.offset now.window left)))
+    ∙ ap (λ n. merged (limit - served) (option_map (after_ahead None) (later now.ports now.tick now.offset now.window left)) (lines_after n)) ports
+    ∙ sym (rest_is (reading (record { capture = now; script = script; limit = limit; served = served; tick = tick; state = GivenRecord })) left script_left)
 
-pub rest_failed : (now new : CaptureSource) (limit served : ℕ) (stop : Stop) (left left_after : Option (List ℕ)) → new.ahead ≡ None
-    → later new.ports new.tick new.offset new.window left_after ≡ later now.ports now.tick now.offset now.window left
-    → rest (reading (record { capture = new; limit = limit; served = served; state = Stopped stop })) left_after
-    ≡ rest (reading (record { capture = now; limit = limit; served = served; state = Given })) left
-rest_failed now new limit served stop left left_after none same =
-    rest_by_later (reading (record { capture = new; limit = limit; served = served; state = Stopped stop })) left_after
-    ∙ ap (λ ahead. option_map (λ recording. cut_recording (limit - served) (after_ahead (option_map seen ahead) recording)) (later new.ports new.tick new.offset new.window left_after)) none
-    ∙ ap (option_map (cut_recording (limit - served))) same
-    ∙ sym (rest_by_later (reading (record { capture = now; limit = limit; served = served; state = Given })) left)
+pub rest_record-failed : (now new : CaptureSource) (script : ScriptSource) (limit served tick : ℕ) (stop : Stop) (left left_after script_left : Option (List ℕ)) → new.ports ≡ now.ports
+    → new.ahead ≡ None → later new.ports new.tick new.offset new.window left_after ≡ later now.ports now.tick now.offset now.window left
+    → rest (reading (record { capture = new; script = script; limit = limit; served = served; tick = tick; state = Stopped stop })) left_after script_left
+    ≡ rest (reading (record { capture = now; script = script; limit = limit; served = served; tick = tick; state = GivenRecord })) left script_left
+rest_record-failed now new script limit served tick stop left left_after script_left ports none same =
+    let lines_after : ℕ → Option Recording = λ n. option_map (after_ahead (option_map seen script.ahead)) (later_lines n script.tick script.line script.window script_left) in
+    rest_is (reading (record { capture = new; script = script; limit = limit; served = served; tick = tick; state = Stopped stop })) left_after script_left
+    ∙ ap (λ ahead. merged (limit - served) (option_map (after_ahead (option_map seen ahead)) (later new.ports new.tick new.offset new.window left_after)) (lines_after new.ports)) none
+    ∙ ap (λ records. merged (limit - served) (option_map (after_ahead None) records) (lines_after new.ports)) same
+    ∙ ap (λ n. merged (limit - served) (option_map (after_ahead None) (later now.ports now.tick now.offset now.window left)) (lines_after n)) ports
+    ∙ sym (rest_is (reading (record { capture = now; script = script; limit = limit; served = served; tick = tick; state = GivenRecord })) left script_left)
 
-pub cut_next : (limit served : ℕ) (event : Seen) (recording : Recording) → served < limit
-    → cut_recording (limit - served) (first event recording) ≡ in_front event (cut_recording (limit - (served + 1)) recording)
-unfolding cut
-cut_next limit served event recording below =
-    let more : limit - served ≡ suc (limit - (served + 1)) = omega arith in
-    ap (λ n. cut_recording n (first event recording)) more
+-- a look at a line leaves what is to come
+pub rest_line : (now new : ScriptSource) (capture : CaptureSource) (limit served tick : ℕ) (capture_left left left_after : Option (List ℕ)) → now.ports ≡ capture.ports → new.ports ≡ capture.ports
+    → later_lines now.ports now.tick now.line now.window left ≡ option_map (after_ahead (option_map seen new.ahead)) (later_lines new.ports new.tick new.line new.window left_after)
+    → rest (reading (record { capture = capture; script = new; limit = limit; served = served; tick = tick; state = Waiting })) capture_left left_after
+    ≡ rest (reading (record { capture = capture; script = now; limit = limit; served = served; tick = tick; state = GivenLine })) capture_left left
+rest_line now new capture limit served tick capture_left left left_after ports ports_after read =
+    let records_after : Option Recording = option_map (after_ahead (option_map seen capture.ahead)) (later capture.ports capture.tick capture.offset capture.window capture_left) in
+    rest_is (reading (record { capture = capture; script = new; limit = limit; served = served; tick = tick; state = Waiting })) capture_left left_after
+    ∙ ap (λ n. merged (limit - served) records_after (option_map (after_ahead (option_map seen new.ahead)) (later_lines n new.tick new.line new.window left_after))) (sym ports_after)
+    ∙ ap (merged (limit - served) records_after) (sym read ∙ sym (nothing_before (later_lines now.ports now.tick now.line now.window left)))
+    ∙ ap (λ n. merged (limit - served) records_after (option_map (after_ahead None) (later_lines n now.tick now.line now.window left))) ports
+    ∙ sym (rest_is (reading (record { capture = capture; script = now; limit = limit; served = served; tick = tick; state = GivenLine })) capture_left left)
 
-pub cut_full : (limit served : ℕ) (event : Seen) (recording : Recording) → served ≡ limit → cut_recording (limit - served) (first event recording) ≡ over (Some TooLong)
-unfolding cut
-cut_full limit served event recording full =
-    let none : limit - served ≡ 0 = omega arith in
-    ap (λ n. cut_recording n (first event recording)) none
+pub rest_line-failed : (now new : ScriptSource) (capture : CaptureSource) (limit served tick : ℕ) (stop : Stop) (capture_left left left_after : Option (List ℕ)) → now.ports ≡ capture.ports → new.ports ≡ capture.ports
+    → new.ahead ≡ None → later_lines new.ports new.tick new.line new.window left_after ≡ later_lines now.ports now.tick now.line now.window left
+    → rest (reading (record { capture = capture; script = new; limit = limit; served = served; tick = tick; state = Stopped stop })) capture_left left_after
+    ≡ rest (reading (record { capture = capture; script = now; limit = limit; served = served; tick = tick; state = GivenLine })) capture_left left
+rest_line-failed now new capture limit served tick stop capture_left left left_after ports ports_after none same =
+    let records_after : Option Recording = option_map (after_ahead (option_map seen capture.ahead)) (later capture.ports capture.tick capture.offset capture.window capture_left) in
+    rest_is (reading (record { capture = capture; script = new; limit = limit; served = served; tick = tick; state = Stopped stop })) capture_left left_after
+    ∙ ap (λ ahead. merged (limit - served) records_after (option_map (after_ahead (option_map seen ahead)) (later_lines capture.ports new.tick new.line new.window left_after))) none
+    ∙ ap (λ n. merged (limit - served) records_after (option_map (after_ahead None) (later_lines n new.tick new.line new.window left_after))) (sym ports_after)
+    ∙ ap (λ lines. merged (limit - served) records_after (option_map (after_ahead None) lines)) same
+    ∙ ap (λ n. merged (limit - served) records_after (option_map (after_ahead None) (later_lines n now.tick now.line now.window left))) ports
+    ∙ sym (rest_is (reading (record { capture = capture; script = now; limit = limit; served = served; tick = tick; state = GivenLine })) capture_left left)
 
--- the event that was read ahead is given
-pub gives_next : (capture : CaptureSource) (ahead : Option Event) (limit served : ℕ) (left : Option (List ℕ)) → capture.ahead ≡ ahead → IsSome ahead → served < limit
-    → IsSomeAnd (option_map seen ahead) (λ event. rest (reading (record { capture = capture; limit = limit; served = served; state = Waiting })) left
-    ≡ option_map (in_front event) (rest (reading (record { capture = capture; limit = limit; served = served + 1; state = Given })) left))
-unfolding rest upcoming
-gives_next capture None limit served left is some below = absurd (cc)
-gives_next capture (Some event) limit served None is some below = refl
-gives_next capture (Some event) limit served (Some left) is some below =
-    rw is (ap Some (cut_next limit served (seen event) (records capture.ports capture.tick capture.offset 0 (coming capture.window left)) below))
+-- the record that was read ahead is given
+pub gives_record : (capture : CaptureSource) (script : ScriptSource) (limit served tick tick_after : ℕ) (capture_left script_left : Option (List ℕ))
+    → next_of capture.ahead script.ahead ≡ nexts.Record → served < limit → IfNone script.ahead (LinesEnd capture.ports script.tick script.line script.window None)
+    → GivesNext (reading (record { capture = capture; script = script; limit = limit; served = served + 1; tick = tick_after; state = GivenRecord }))
+    (rest (reading (record { capture = capture; script = script; limit = limit; served = served; tick = tick; state = Waiting })) capture_left script_left)
+    (rest (reading (record { capture = capture; script = script; limit = limit; served = served + 1; tick = tick_after; state = GivenRecord })) capture_left script_left)
+unfolding rest upcoming records_to_come lines_to_come
+gives_record capture script limit served tick tick_after None script_left next below ends =
+    some_and (option_map seen capture.ahead) (λ event step. refl) (record_step capture.ahead script.ahead (none_until None) (none_until None) next (none_weaker script.ahead (λ all. refl) ends))
+gives_record capture script limit served tick tick_after (Some capture_left) None next below ends =
+    some_and (option_map seen capture.ahead) (λ event step. refl) (record_step capture.ahead script.ahead (none_until None) (none_until None) next (none_weaker script.ahead (λ all. refl) ends))
+gives_record capture script limit served tick tick_after (Some capture_left) (Some script_left) next below ends =
+    some_and (option_map seen capture.ahead) (λ event step. ap Some (ap (cut_recording (limit - served)) step ∙ cut_next limit served event _ below))
+    (record_step capture.ahead script.ahead (records capture.ports capture.tick capture.offset 0 (coming capture.window capture_left)) (lines capture.ports script.tick script.line 0 (coming script.window script_left))
+    next (none_weaker script.ahead (λ all. all script_left) ends))
 
--- nothing was read ahead, and nothing comes
-pub shows_end : (capture : CaptureSource) (limit served : ℕ) (state : State) (stop : Option Stop) → capture.ahead ≡ None
-    → Ends capture.ports capture.tick capture.offset capture.window stop
-    → ShowsOver stop (reading (record { capture = capture; limit = limit; served = served; state = state }))
-unfolding upcoming cut
-shows_end capture limit served Waiting stop none ends left = rw none (ap (cut_recording (limit - served)) (ends left))
-shows_end capture limit served Given stop none ends left = ap (cut_recording (limit - served)) (ends left)
-shows_end capture limit served (Stopped answer) stop none ends left = rw none (ap (cut_recording (limit - served)) (ends left))
+-- the line that was read ahead is given
+pub gives_line : (capture : CaptureSource) (script : ScriptSource) (limit served tick tick_after : ℕ) (capture_left script_left : Option (List ℕ))
+    → next_of capture.ahead script.ahead ≡ nexts.Line → served < limit → IfNone capture.ahead (Ends capture.ports capture.tick capture.offset capture.window None)
+    → GivesNext (reading (record { capture = capture; script = script; limit = limit; served = served + 1; tick = tick_after; state = GivenLine }))
+    (rest (reading (record { capture = capture; script = script; limit = limit; served = served; tick = tick; state = Waiting })) capture_left script_left)
+    (rest (reading (record { capture = capture; script = script; limit = limit; served = served + 1; tick = tick_after; state = GivenLine })) capture_left script_left)
+unfolding rest upcoming records_to_come lines_to_come
+gives_line capture script limit served tick tick_after None script_left next below ends =
+    some_and (option_map seen script.ahead) (λ event step. refl) (line_step capture.ahead script.ahead (none_until None) (none_until None) next (none_weaker capture.ahead (λ all. refl) ends))
+gives_line capture script limit served tick tick_after (Some capture_left) None next below ends =
+    some_and (option_map seen script.ahead) (λ event step. refl) (line_step capture.ahead script.ahead (none_until None) (none_until None) next (none_weaker capture.ahead (λ all. refl) ends))
+gives_line capture script limit served tick tick_after (Some capture_left) (Some script_left) next below ends =
+    some_and (option_map seen script.ahead) (λ event step. ap Some (ap (cut_recording (limit - served)) step ∙ cut_next limit served event _ below))
+    (line_step capture.ahead script.ahead (records capture.ports capture.tick capture.offset 0 (coming capture.window capture_left)) (lines capture.ports script.tick script.line 0 (coming script.window script_left))
+    next (none_weaker capture.ahead (λ all. all capture_left) ends))
 
 -- one more event than the limit
-pub shows_too_long : (capture : CaptureSource) (ahead : Option Event) (limit served : ℕ) → capture.ahead ≡ ahead → IsSome ahead → served ≡ limit
-    → ShowsOver (Some TooLong) (reading (record { capture = capture; limit = limit; served = served; state = Stopped TooLong }))
-unfolding upcoming
-shows_too_long capture None limit served is some full left = absurd (cc)
-shows_too_long capture (Some event) limit served is some full left =
-    rw is (cut_full limit served (seen event) (records capture.ports capture.tick capture.offset 0 (coming capture.window left)) full)
+
+pub too_many-record : (capture : CaptureSource) (script : ScriptSource) (limit served tick : ℕ) → next_of capture.ahead script.ahead ≡ nexts.Record → served ≡ limit
+    → IfNone script.ahead (LinesEnd capture.ports script.tick script.line script.window None)
+    → ShowsOver (Some TooLong) (reading (record { capture = capture; script = script; limit = limit; served = served; tick = tick; state = Stopped TooLong }))
+unfolding upcoming records_to_come lines_to_come
+too_many-record capture script limit served tick next full ends capture_left script_left =
+    of_some (option_map seen capture.ahead) (λ event step. ap (cut_recording (limit - served)) step ∙ cut_full limit served event _ full)
+    (record_step capture.ahead script.ahead (records capture.ports capture.tick capture.offset 0 (coming capture.window capture_left)) (lines capture.ports script.tick script.line 0 (coming script.window script_left))
+    next (none_weaker script.ahead (λ all. all script_left) ends))
+
+pub too_many-line : (capture : CaptureSource) (script : ScriptSource) (limit served tick : ℕ) → next_of capture.ahead script.ahead ≡ nexts.Line → served ≡ limit
+    → IfNone capture.ahead (Ends capture.ports capture.tick capture.offset capture.window None)
+    → ShowsOver (Some TooLong) (reading (record { capture = capture; script = script; limit = limit; served = served; tick = tick; state = Stopped TooLong }))
+unfolding upcoming records_to_come lines_to_come
+too_many-line capture script limit served tick next full ends capture_left script_left =
+    of_some (option_map seen script.ahead) (λ event step. ap (cut_recording (limit - served)) step ∙ cut_full limit served event _ full)
+    (line_step capture.ahead script.ahead (records capture.ports capture.tick capture.offset 0 (coming capture.window capture_left)) (lines capture.ports script.tick script.line 0 (coming script.window script_left))
+    next (none_weaker capture.ahead (λ all. all capture_left) ends))
+
+-- nothing was read ahead, and nothing comes
+pub shows_end : (capture : CaptureSource) (script : ScriptSource) (limit served tick : ℕ) → capture.ahead ≡ None → script.ahead ≡ None
+    → Ends capture.ports capture.tick capture.offset capture.window None → LinesEnd capture.ports script.tick script.line script.window None
+    → ShowsOver None (reading (record { capture = capture; script = script; limit = limit; served = served; tick = tick; state = Waiting }))
+unfolding upcoming records_to_come lines_to_come
+shows_end capture script limit served tick no_record no_line records_end lines_end capture_left script_left =
+    rw (no_record, no_line) (cut_over (limit - served) _ None (both_end _ _ (records_end capture_left) (lines_end script_left)))
+
+-- the capture shows its fault, or the script
+
+pub shows_capture : (capture : CaptureSource) (script : ScriptSource) (limit served tick : ℕ) (answer stop : Stop) → capture.ahead ≡ None
+    → Ends capture.ports capture.tick capture.offset capture.window (Some stop) → IfNone script.ahead (LinesEnd capture.ports script.tick script.line script.window None)
+    → ShowsOver (Some stop) (reading (record { capture = capture; script = script; limit = limit; served = served; tick = tick; state = Stopped answer }))
+unfolding upcoming records_to_come lines_to_come
+shows_capture capture script limit served tick answer stop none ends lines_end capture_left script_left =
+    rw none (cut_over (limit - served) _ (Some stop) (capture_over (option_map seen script.ahead) _ _ stop (ends capture_left) (none_seen _ script.ahead (none_weaker script.ahead (λ all. all script_left) lines_end))))
+
+pub shows_script : (capture : CaptureSource) (script : ScriptSource) (limit served tick : ℕ) (answer stop : Stop) → script.ahead ≡ None
+    → LinesEnd capture.ports script.tick script.line script.window (Some stop)
+    → ShowsOver (Some stop) (reading (record { capture = capture; script = script; limit = limit; served = served; tick = tick; state = Stopped answer }))
+unfolding upcoming records_to_come lines_to_come
+shows_script capture script limit served tick answer stop none ends capture_left script_left =
+    rw none (cut_over (limit - served) _ (Some stop) (script_over _ _ stop (ends script_left)))
 
 -- where the desk tells, that is what comes
-pub over_told : (stop : Option Stop) (reading : Reading) (left : Option (List ℕ)) → ShowsOver stop reading → IsOver stop (rest reading left)
+pub over_told : (stop : Option Stop) (reading : Reading) (capture_left script_left : Option (List ℕ)) → ShowsOver stop reading → IsOver stop (rest reading capture_left script_left)
 unfolding rest
-over_told stop reading None shows = tt
-over_told stop reading (Some left) shows = shows left
+over_told stop reading None script_left shows = tt
+over_told stop reading (Some capture_left) None shows = tt
+over_told stop reading (Some capture_left) (Some script_left) shows = shows capture_left script_left
 
 -- what shows that it is over was over before, where nothing was lost
-pub over_before : (stop : Option Stop) (reading : Reading) (left : Option (List ℕ)) (before : Option Schedule) → rest reading left ≡ before → ShowsOver stop reading → IsOver stop before
-over_before stop reading left before same shows = subst (λ (schedule : Option Schedule). IsOver stop schedule) same (over_told stop reading left shows)
+pub over_before : (stop : Option Stop) (reading : Reading) (capture_left script_left : Option (List ℕ)) (before : Option Schedule) → rest reading capture_left script_left ≡ before → ShowsOver stop reading
+    → IsOver stop before
+over_before stop reading capture_left script_left before same shows =
+    subst (λ (schedule : Option Schedule). IsOver stop schedule) same (over_told stop reading capture_left script_left shows)
 
 -- a stop leaves what is to come
-pub rest_stopped : (progress : Progress) (stop : Stop) (left : Option (List ℕ)) → progress.state ≡ Waiting
-    → rest (reading (record progress { state = Stopped stop })) left ≡ rest (reading progress) left
+pub rest_stopped : (progress : Progress) (stop : Stop) (capture_left script_left : Option (List ℕ)) → progress.state ≡ Waiting
+    → rest (reading (record progress { state = Stopped stop })) capture_left script_left ≡ rest (reading progress) capture_left script_left
 unfolding rest upcoming
-rest_stopped progress stop left waiting =
-    let P : State → Type 0 = λ state. rest (reading (record progress { state = Stopped stop })) left ≡ rest (reading (record progress { state = state })) left in
+rest_stopped progress stop capture_left script_left waiting =
+    let P : State → Type 0 = λ state. rest (reading (record progress { state = Stopped stop })) capture_left script_left ≡ rest (reading (record progress { state = state })) capture_left script_left in
     subst P (sym waiting) refl
 
--- a look that failed is the cause of a stop
-pub stops_because : (progress : Progress) (before : Option Schedule) (left : Option (List ℕ)) (faults faults_after : ℕ) (stop : Stop) → progress.capture.ahead ≡ None
-    → rest (reading progress) left ≡ before
-    → LookFailed progress.capture.ports progress.capture.tick progress.capture.offset progress.capture.window faults faults_after stop
-    → StopsBecause (reading progress) before faults faults_after stop
-stops_because progress before left faults faults_after stops.Usage none same failed = failed
-stops_because progress before left faults faults_after (stops.Rules why) none same failed = failed
-stops_because progress before left faults faults_after (stops.Capture offset why) none same failed =
-    let shows = shows_end progress.capture progress.limit progress.served progress.state (Some (stops.Capture offset why)) none failed in
-    (shows, over_before (Some (stops.Capture offset why)) (reading progress) left before same shows)
-stops_because progress before left faults faults_after (stops.Script line why) none same failed = failed
-stops_because progress before left faults faults_after stops.TooLong none same failed = absurd failed
-stops_because progress before left faults faults_after (stops.ReadFault inputs.Rules) none same failed = failed
-stops_because progress before left faults faults_after (stops.ReadFault inputs.Capture) none same failed = failed
-stops_because progress before left faults faults_after (stops.ReadFault inputs.Script) none same failed = failed
-stops_because progress before left faults faults_after (stops.WriteFault outlet) none same failed = failed
-stops_because progress before left faults faults_after stops.OutOfMemory none same failed = failed
+-- a look at the capture that failed is the cause of a stop
+pub capture_stops : (progress : Progress) (before : Option Schedule) (capture_left script_left : Option (List ℕ)) (reads reads_after : Input → ℕ) (answer stop : Stop) → progress.state ≡ Stopped answer
+    → progress.capture.ahead ≡ None → IfNone progress.script.ahead (LinesEnd progress.capture.ports progress.script.tick progress.script.line progress.script.window None)
+    → rest (reading progress) capture_left script_left ≡ before
+    → LookFailed progress.capture.ports progress.capture.tick progress.capture.offset progress.capture.window (reads inputs.Capture) (reads_after inputs.Capture) stop
+    → StopsBecause (reading progress) before reads reads_after stop
+capture_stops progress before capture_left script_left reads reads_after answer stops.Usage state none lines_end same failed = failed
+capture_stops progress before capture_left script_left reads reads_after answer (stops.Rules why) state none lines_end same failed = failed
+capture_stops progress before capture_left script_left reads reads_after answer (stops.Capture offset why) state none lines_end same failed =
+    let shows : ShowsOver (Some (stops.Capture offset why)) (reading progress) =
+    subst (λ (state : State). ShowsOver (Some (stops.Capture offset why)) (reading (record progress { state = state }))) (sym state)
+    (shows_capture progress.capture progress.script progress.limit progress.served progress.tick answer (stops.Capture offset why) none failed lines_end) in
+    (shows, over_before (Some (stops.Capture offset why)) (reading progress) capture_left script_left before same shows)
+capture_stops progress before capture_left script_left reads reads_after answer (stops.Script line why) state none lines_end same failed = absurd failed
+capture_stops progress before capture_left script_left reads reads_after answer stops.TooLong state none lines_end same failed = absurd failed
+capture_stops progress before capture_left script_left reads reads_after answer (stops.ReadFault inputs.Rules) state none lines_end same failed = failed
+capture_stops progress before capture_left script_left reads reads_after answer (stops.ReadFault inputs.Capture) state none lines_end same failed = failed
+capture_stops progress before capture_left script_left reads reads_after answer (stops.ReadFault inputs.Script) state none lines_end same failed = absurd failed
+capture_stops progress before capture_left script_left reads reads_after answer (stops.WriteFault outlet) state none lines_end same failed = failed
+capture_stops progress before capture_left script_left reads reads_after answer stops.OutOfMemory state none lines_end same failed = failed
+
+-- and one at the script
+pub script_stops : (progress : Progress) (before : Option Schedule) (capture_left script_left : Option (List ℕ)) (reads reads_after : Input → ℕ) (answer stop : Stop) → progress.state ≡ Stopped answer
+    → progress.script.ahead ≡ None → progress.script.ports ≡ progress.capture.ports
+    → rest (reading progress) capture_left script_left ≡ before
+    → LineLookFailed progress.script.ports progress.script.tick progress.script.line progress.script.window (reads inputs.Script) (reads_after inputs.Script) stop
+    → StopsBecause (reading progress) before reads reads_after stop
+script_stops progress before capture_left script_left reads reads_after answer stops.Usage state none ports same failed = failed
+script_stops progress before capture_left script_left reads reads_after answer (stops.Rules why) state none ports same failed = failed
+script_stops progress before capture_left script_left reads reads_after answer (stops.Capture offset why) state none ports same failed = absurd failed
+script_stops progress before capture_left script_left reads reads_after answer (stops.Script line why) state none ports same failed =
+    let ends = subst (λ n. LinesEnd n progress.script.tick progress.script.line progress.script.window (Some (stops.Script line why))) ports failed in
+    let shows : ShowsOver (Some (stops.Script line why)) (reading progress) =
+    subst (λ (state : State). ShowsOver (Some (stops.Script line why)) (reading (record progress { state = state }))) (sym state)
+    (shows_script progress.capture progress.script progress.limit progress.served progress.tick answer (stops.Script line why) none ends) in
+    (shows, over_before (Some (stops.Script line why)) (reading progress) capture_left script_left before same shows)
+script_stops progress before capture_left script_left reads reads_after answer stops.TooLong state none ports same failed = absurd failed
+script_stops progress before capture_left script_left reads reads_after answer (stops.ReadFault inputs.Rules) state none ports same failed = failed
+script_stops progress before capture_left script_left reads reads_after answer (stops.ReadFault inputs.Capture) state none ports same failed = absurd failed
+script_stops progress before capture_left script_left reads reads_after answer (stops.ReadFault inputs.Script) state none ports same failed = failed
+script_stops progress before capture_left script_left reads reads_after answer (stops.WriteFault outlet) state none ports same failed = failed
+script_stops progress before capture_left script_left reads reads_after answer stops.OutOfMemory state none ports same failed = failed
 
 nothing_seen : (ahead : Option Event) → option_map seen ahead ≡ None → ahead ≡ None
 nothing_seen None none = refl
 nothing_seen (Some event) none = absurd (cc)
 
 -- nothing was read ahead where nothing waits
-pub nothing_waits : (progress : Progress) → progress.state ≡ Waiting → (reading progress).ahead ≡ None → progress.capture.ahead ≡ None
-nothing_waits progress waiting none =
-    let P : State → Type 0 = λ state. waiting_in state (option_map seen progress.capture.ahead) ≡ None in
+
+pub no_record_waits : (progress : Progress) → progress.state ≡ Waiting → (reading progress).capture.ahead ≡ None → progress.capture.ahead ≡ None
+no_record_waits progress waiting none =
+    let P : State → Type 0 = λ state. record_waiting state (option_map seen progress.capture.ahead) ≡ None in
     nothing_seen progress.capture.ahead (subst P waiting none)
 
--- the end, where nothing was read ahead
-pub ends_waiting : (progress : Progress) → Fits progress.state progress → progress.state ≡ Waiting → progress.capture.ahead ≡ None
-    → Ends progress.capture.ports progress.capture.tick progress.capture.offset progress.capture.window None
-ends_waiting progress fits waiting none =
-    let P : State → Type 0 = λ state. Fits state progress in
-    MatchOption-at_none _ _ none (subst P waiting fits)
-
-pub nothing_there : (ahead : Option Event) → is_some ahead ≡ false → ahead ≡ None
-nothing_there None test = refl
-nothing_there (Some event) test = absurd (cc)
+pub no_line_waits : (progress : Progress) → progress.state ≡ Waiting → (reading progress).script.ahead ≡ None → progress.script.ahead ≡ None
+no_line_waits progress waiting none =
+    let P : State → Type 0 = λ state. line_waiting state (option_map seen progress.script.ahead) ≡ None in
+    nothing_seen progress.script.ahead (subst P waiting none)
 
 -- the end, at this step or an earlier one
-pub ended : (new old : Progress) (before : Option Schedule) (left : Option (List ℕ)) → new ≡ old → old.state ≡ Waiting → old.capture.ahead ≡ None
-    → ShowsOver None (reading new) → rest (reading new) left ≡ before → IsAtEnd (reading new) × ShowsOver None (reading new) × IsOver None before
-ended new old before left same waiting none shows rest_is =
+pub ended : (new old : Progress) (before : Option Schedule) (capture_left script_left : Option (List ℕ)) → new ≡ old → old.state ≡ Waiting → old.capture.ahead ≡ None → old.script.ahead ≡ None
+    → ShowsOver None (reading new) → rest (reading new) capture_left script_left ≡ before → IsAtEnd (reading new) × ShowsOver None (reading new) × IsOver None before
+ended new old before capture_left script_left same waiting no_record no_line shows rest_is =
     let state : new.state ≡ Waiting = ap (λ (progress : Progress). progress.state) same ∙ waiting in
-    let ahead : new.capture.ahead ≡ None = ap (λ (progress : Progress). progress.capture.ahead) same ∙ none in
+    let record_ahead : new.capture.ahead ≡ None = ap (λ (progress : Progress). progress.capture.ahead) same ∙ no_record in
+    let line_ahead : new.script.ahead ≡ None = ap (λ (progress : Progress). progress.script.ahead) same ∙ no_line in
     let end : IsAtEnd (reading new) = record {
-      nothing_given = ap (λ (state : State). given_in state (option_map seen new.capture.ahead)) state;
-      nothing_ahead = ap (λ (state : State). waiting_in state (option_map seen new.capture.ahead)) state ∙ ap (option_map seen) ahead;
+      nothing_given = ap (λ (state : State). given_in state (option_map seen new.capture.ahead) (option_map seen new.script.ahead)) state;
+      no_record = ap (λ (state : State). record_waiting state (option_map seen new.capture.ahead)) state ∙ ap (option_map seen) record_ahead;
+      no_line = ap (λ (state : State). line_waiting state (option_map seen new.script.ahead)) state ∙ ap (option_map seen) line_ahead;
       no_stop = ap stop_in state;
     } in
-    (end, shows, over_before None (reading new) left before rest_is shows)
+    (end, shows, over_before None (reading new) capture_left script_left before rest_is shows)
 
 -- one event too many
-pub too_long : (new old : Progress) (before : Option Schedule) (left : Option (List ℕ)) (faults faults_after : ℕ) (stop : Stop) → stop ≡ TooLong
+pub too_long : (new old : Progress) (before : Option Schedule) (capture_left script_left : Option (List ℕ)) (reads reads_after : Input → ℕ) (stop : Stop) → stop ≡ TooLong
     → new ≡ record old { state = Stopped TooLong } → old.state ≡ Waiting → old.served ≡ old.limit → ShowsOver (Some TooLong) (reading new)
-    → rest (reading old) left ≡ before → StopsBecause (reading new) before faults faults_after stop
-too_long new old before left faults faults_after stop is same waiting full shows rest_is =
-    let rest_new : rest (reading new) left ≡ before = ap (λ (progress : Progress). rest (reading progress) left) same ∙ rest_stopped old TooLong left waiting ∙ rest_is in
+    → rest (reading old) capture_left script_left ≡ before → StopsBecause (reading new) before reads reads_after stop
+too_long new old before capture_left script_left reads reads_after stop is same waiting full shows rest_is =
+    let rest_new : rest (reading new) capture_left script_left ≡ before =
+    ap (λ (progress : Progress). rest (reading progress) capture_left script_left) same ∙ rest_stopped old TooLong capture_left script_left waiting ∙ rest_is in
     let counts : new.served ≡ new.limit = ap (λ (progress : Progress). progress.served) same ∙ full ∙ sym (ap (λ (progress : Progress). progress.limit) same) in
-    subst (λ (answer : Stop). StopsBecause (reading new) before faults faults_after answer) (sym is) (shows, over_before (Some TooLong) (reading new) left before rest_new shows, counts)
+    subst (λ (answer : Stop). StopsBecause (reading new) before reads reads_after answer) (sym is)
+    (shows, over_before (Some TooLong) (reading new) capture_left script_left before rest_new shows, counts)
 
 pub not_ok_true : (answer : Result Bool Stop) → answer ≡ Ok false → answer ≢ Ok true
 not_ok_true answer isnt is = cc
+
+-- an answer that isn't Ok is a stop
+pub only_stops : {P : Stop → Type 0} (Q : Type 0) (answer : Result Bool Stop) → answer ≢ Ok true → answer ≢ Ok false → IfErr answer P → ((stop : Stop) → P stop → Q) → Q
+only_stops Q (Ok true) not_true not_false is uses = absurd (not_true refl)
+only_stops Q (Ok false) not_true not_false is uses = absurd (not_false refl)
+only_stops Q (Err stop) not_true not_false is uses = uses stop is
+
+-- a source of which nothing was read ahead is at its end
+
+pub waiting_records : (progress : Progress) → IsSound progress → progress.state ≡ Waiting
+    → IfNone progress.capture.ahead (Ends progress.capture.ports progress.capture.tick progress.capture.offset progress.capture.window None)
+waiting_records progress sound waiting = subst (λ (state : State). RecordsFit state progress.capture) waiting sound.records
+
+lines_at_ports : (progress : Progress) → progress.script.ports ≡ progress.capture.ports
+    → IfNone progress.script.ahead (LinesEnd progress.script.ports progress.script.tick progress.script.line progress.script.window None)
+    → IfNone progress.script.ahead (LinesEnd progress.capture.ports progress.script.tick progress.script.line progress.script.window None)
+lines_at_ports progress ports fits = subst (λ n. IfNone progress.script.ahead (LinesEnd n progress.script.tick progress.script.line progress.script.window None)) ports fits
+
+pub waiting_lines : (progress : Progress) → IsSound progress → progress.state ≡ Waiting
+    → IfNone progress.script.ahead (LinesEnd progress.capture.ports progress.script.tick progress.script.line progress.script.window None)
+waiting_lines progress sound waiting = lines_at_ports progress sound.same_ports (subst (λ (state : State). LinesFit state progress.script) waiting sound.lines)
+
+pub record_lines : (progress : Progress) → IsSound progress → progress.state ≡ GivenRecord
+    → IfNone progress.script.ahead (LinesEnd progress.capture.ports progress.script.tick progress.script.line progress.script.window None)
+record_lines progress sound given = lines_at_ports progress sound.same_ports (subst (λ (state : State). LinesFit state progress.script) given sound.lines)
+
+-- the event of a source is given
+
+pub record_given : (old new : Progress) (tick : ℕ) (capture_left script_left : Option (List ℕ)) → IsSound old → old.state ≡ Waiting → next_of old.capture.ahead old.script.ahead ≡ nexts.Record
+    → old.served < old.limit → new ≡ record old { served = old.served + 1; tick = tick; state = GivenRecord }
+    → GivesNext (reading new) (rest (reading old) capture_left script_left) (rest (reading new) capture_left script_left)
+record_given old new tick capture_left script_left sound waiting next below same =
+    let after : Progress = record old { served = old.served + 1; tick = tick; state = GivenRecord } in
+    let P : State → Type 0 = λ state. GivesNext (reading after) (rest (reading (record old { state = state })) capture_left script_left) (rest (reading after) capture_left script_left) in
+    let Q : Progress → Type 0 = λ progress. GivesNext (reading progress) (rest (reading old) capture_left script_left) (rest (reading progress) capture_left script_left) in
+    subst Q (sym same) (subst P (sym waiting)
+    (gives_record old.capture old.script old.limit old.served old.tick tick capture_left script_left next below (waiting_lines old sound waiting)))
+
+pub line_given : (old new : Progress) (tick : ℕ) (capture_left script_left : Option (List ℕ)) → IsSound old → old.state ≡ Waiting → next_of old.capture.ahead old.script.ahead ≡ nexts.Line
+    → old.served < old.limit → new ≡ record old { served = old.served + 1; tick = tick; state = GivenLine }
+    → GivesNext (reading new) (rest (reading old) capture_left script_left) (rest (reading new) capture_left script_left)
+line_given old new tick capture_left script_left sound waiting next below same =
+    let after : Progress = record old { served = old.served + 1; tick = tick; state = GivenLine } in
+    let P : State → Type 0 = λ state. GivesNext (reading after) (rest (reading (record old { state = state })) capture_left script_left) (rest (reading after) capture_left script_left) in
+    let Q : Progress → Type 0 = λ progress. GivesNext (reading progress) (rest (reading old) capture_left script_left) (rest (reading progress) capture_left script_left) in
+    subst Q (sym same) (subst P (sym waiting)
+    (gives_line old.capture old.script old.limit old.served old.tick tick capture_left script_left next below (waiting_records old sound waiting)))
+
+pub record_refused : (old new : Progress) → IsSound old → old.state ≡ Waiting → next_of old.capture.ahead old.script.ahead ≡ nexts.Record → old.served ≡ old.limit
+    → new ≡ record old { state = Stopped TooLong } → ShowsOver (Some TooLong) (reading new)
+record_refused old new sound waiting next full same =
+    subst (λ (progress : Progress). ShowsOver (Some TooLong) (reading progress)) (sym same)
+    (too_many-record old.capture old.script old.limit old.served old.tick next full (waiting_lines old sound waiting))
+
+pub line_refused : (old new : Progress) → IsSound old → old.state ≡ Waiting → next_of old.capture.ahead old.script.ahead ≡ nexts.Line → old.served ≡ old.limit
+    → new ≡ record old { state = Stopped TooLong } → ShowsOver (Some TooLong) (reading new)
+line_refused old new sound waiting next full same =
+    subst (λ (progress : Progress). ShowsOver (Some TooLong) (reading progress)) (sym same)
+    (too_many-line old.capture old.script old.limit old.served old.tick next full (waiting_records old sound waiting))
+
+-- neither source has an event
+pub nothing_comes : (progress : Progress) → IsSound progress → progress.state ≡ Waiting → progress.capture.ahead ≡ None → progress.script.ahead ≡ None → ShowsOver None (reading progress)
+nothing_comes progress sound waiting no_record no_line =
+    subst (λ (state : State). ShowsOver None (reading (record progress { state = state }))) (sym waiting)
+    (shows_end progress.capture progress.script progress.limit progress.served progress.tick no_record no_line
+    (MatchOption-at_none _ _ no_record (waiting_records progress sound waiting)) (MatchOption-at_none _ _ no_line (waiting_lines progress sound waiting)))
+
+-- a stop at one event too many leaves what is to come
+pub refused_rest : (old new : Progress) (capture_left script_left : Option (List ℕ)) → old.state ≡ Waiting → new ≡ record old { state = Stopped TooLong }
+    → rest (reading new) capture_left script_left ≡ rest (reading old) capture_left script_left
+refused_rest old new capture_left script_left waiting same =
+    ap (λ (progress : Progress). rest (reading progress) capture_left script_left) same ∙ rest_stopped old TooLong capture_left script_left waiting
+
+-- a look at the capture leaves the script as it was
+pub lines_still : (old new : Progress) → new.script ≡ old.script → new.capture.ports ≡ old.capture.ports
+    → IfNone old.script.ahead (LinesEnd old.capture.ports old.script.tick old.script.line old.script.window None)
+    → IfNone new.script.ahead (LinesEnd new.capture.ports new.script.tick new.script.line new.script.window None)
+lines_still old new script ports fits =
+    let P : ScriptSource → Type 0 = λ source. IfNone source.ahead (LinesEnd new.capture.ports source.tick source.line source.window None) in
+    let Q : ℕ → Type 0 = λ n. IfNone old.script.ahead (LinesEnd n old.script.tick old.script.line old.script.window None) in
+    subst P (sym script) (subst Q (sym ports) fits)

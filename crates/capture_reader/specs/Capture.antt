@@ -140,7 +140,3 @@ records ports last offset zero (byte ∷ bytes) =
       | Err why ↦ none_until (Some (stops.Capture offset why))
     ]
 records ports last offset (suc skip) (byte ∷ bytes) = records ports last (offset + 1) skip bytes
-
--- the whole capture
-unfoldable pub capture : List ℕ → Recording
-capture bytes = elim (header bytes) [ Ok ports ↦ records ports 0 8 0 (drop 8 bytes) | Err stop ↦ none_until (Some stop) ]

@@ -1,6 +1,9 @@
 pub mod Capture
+pub mod Lines
+pub mod Merge
 pub mod Progress
 pub mod Reader
 pub mod Schedule
+pub mod Script
 pub mod Source
 pub mod Window

@@ -1,14 +1,31 @@
 -- What a reader has read, and what is still to come.
-use Rattle.std.specs.Prelude.{◌≡◌, ℕ, ◌-◌, ◌≤◌, List, [], Option, Some, None, option_map, IfSome, IsSomeAnd}
+use Rattle.std.specs.Prelude.{◌≡◌, ◌≢◌, ℕ, ◌-◌, ◌≤◌, List, [], Option, Some, None, option_map, IfSome, IsSomeAnd}
+use Rattle.psd_base.specs.declared.outlet.Input.{Input}
 use Rattle.psd_base.specs.declared.outlet.Input.TheVariants as inputs
+use Rattle.psd_base.specs.declared.stop.CaptureFault.{CaptureFault}
+use Rattle.psd_base.specs.declared.stop.ScriptFault.{ScriptFault}
 use Rattle.psd_base.specs.declared.stop.Stop.{Stop}
 use Rattle.psd_base.specs.declared.stop.Stop.TheVariants as stops
 use Rattle.psd_base.specs.Desk.{Rose}
-use Rattle.psd_base.specs.Event.{Seen}
-use Rattle.capture_reader.specs.Capture.{records}
-use Rattle.capture_reader.specs.Schedule.{Schedule, in_front, over, cut_recording}
-use Rattle.capture_reader.specs.Source.{HappensWithin, after_ahead}
-use Rattle.capture_reader.specs.Window.{Held, coming}
+use Rattle.psd_base.specs.Event.{HappensWithin, Seen}
+use Rattle.capture_reader.specs.Capture.{Recording, records}
+use Rattle.capture_reader.specs.Merge.{merge}
+use Rattle.capture_reader.specs.Schedule.{Schedule, in_front, over, both, cut_recording}
+use Rattle.capture_reader.specs.Script.{lines}
+use Rattle.capture_reader.specs.Source.{after_ahead}
+use Rattle.capture_reader.specs.Window.{Held, HasNoLine, coming}
+pub use Rattle.capture_reader.specs.Window.{ReadsSources}
+
+-- how far a source was read
+pub record Following : Type 0 where
+  -- the event that was read ahead and not given
+  pub ahead : Option Seen
+  -- the tick of the last event that was read
+  pub tick : ℕ
+  -- where the next one begins: the offset of a record's first byte, or the number of a line
+  pub place : ℕ
+  -- the bytes that were taken and not read
+  pub held : Held
 
 pub record Reading : Type 0 where
   -- the most events that are given, and how many were given
@@ -18,25 +35,30 @@ pub record Reading : Type 0 where
   pub ports : ℕ
   -- the event that the last advance gave
   pub given : Option Seen
-  -- the event that was read ahead and not given
-  pub ahead : Option Seen
   -- the stop that was answered
   pub stopped : Option Stop
-  -- the tick of the last record that was read, below which none comes
+  -- the tick of the last event that was given, below which none comes; 0 before the first
   pub tick : ℕ
-  -- where the next record begins
-  pub offset : ℕ
-  -- the bytes of the capture behind the last record that was read
-  pub held : Held
+  pub capture : Following
+  pub script : Following
 
--- what is still to come, where the desk has these bytes of the capture left
-unfoldable pub upcoming : Reading → List ℕ → Schedule
-upcoming reading left =
-    cut_recording (reading.limit - reading.served) (after_ahead reading.ahead (records reading.ports reading.tick reading.offset 0 (coming reading.held left)))
+-- the records and the lines that are still to come, where the desk has these bytes left
+
+unfoldable pub records_to_come : ℕ → Following → List ℕ → Recording
+records_to_come ports source left = after_ahead source.ahead (records ports source.tick source.place 0 (coming source.held left))
+
+unfoldable pub lines_to_come : ℕ → Following → List ℕ → Recording
+lines_to_come ports source left = after_ahead source.ahead (lines ports source.tick source.place 0 (coming source.held left))
+
+-- what is still to come, where the desk has these bytes of the capture and these of the script left
+unfoldable pub upcoming : Reading → List ℕ → List ℕ → Schedule
+upcoming reading capture_left script_left =
+    cut_recording (reading.limit - reading.served)
+    (merge (lines_to_come reading.ports reading.script script_left) (records_to_come reading.ports reading.capture capture_left))
 
 -- the same where the desk may not tell
-unfoldable pub rest : Reading → Option (List ℕ) → Option Schedule
-rest reading left = option_map (upcoming reading) left
+unfoldable pub rest : Reading → Option (List ℕ) → Option (List ℕ) → Option Schedule
+rest reading capture_left script_left = both (upcoming reading) capture_left script_left
 
 -- the event that was given is the next of what was to come
 abbrev pub GivesNext : Reading → Option Schedule → Option Schedule → Type 0
@@ -48,32 +70,46 @@ IsOver stop before = IfSome before (λ schedule. schedule ≡ over stop)
 
 -- whatever the desk has left, no event is to come, and this end
 abbrev pub ShowsOver : Option Stop → Reading → Type 0
-ShowsOver stop reading = (left : List ℕ) → upcoming reading left ≡ over stop
+ShowsOver stop reading = (capture_left script_left : List ℕ) → upcoming reading capture_left script_left ≡ over stop
 
--- the reader met the end of the capture
+-- the reader met the end of both sources
 pub record IsAtEnd (reading : Reading) : Type 0 where
   pub nothing_given : reading.given ≡ None
-  pub nothing_ahead : reading.ahead ≡ None
+  pub no_record : reading.capture.ahead ≡ None
+  pub no_line : reading.script.ahead ≡ None
   pub no_stop : reading.stopped ≡ None
 
--- the bytes that were taken and not read hold no whole record
+-- the bytes of the capture that were taken and not read hold no whole record
 abbrev pub HoldsNoRecord : Reading → Type 0
-HoldsNoRecord reading = (records reading.ports reading.tick reading.offset 0 reading.held.bytes).events ≡ []
+HoldsNoRecord reading = (records reading.ports reading.capture.tick reading.capture.place 0 reading.capture.held.bytes).events ≡ []
 
--- an event of one of so many ports, which no later one is below and no earlier one above
+-- the bytes of the script that were taken and not read hold no whole line
+abbrev pub HoldsNoLine : Reading → Type 0
+HoldsNoLine reading = HasNoLine reading.script.held.bytes
+
+-- an event at one of so many ports, which is not below the last one given, and is the last one given now
 abbrev pub IsInOrder : ℕ → ℕ → ℕ → Seen → Type 0
 IsInOrder tick_before tick_after ports event = (tick_before ≤ event.tick) × (event.tick ≡ tick_after) × HappensWithin ports event.happening
 
 -- why a reader stops: what was to come is over so, or a read failed and its count rose
-abbrev pub StopsBecause : Reading → Option Schedule → ℕ → ℕ → Stop → Type 0
-StopsBecause new before faults faults_after (stops.ReadFault inputs.Capture) = Rose faults faults_after × HoldsNoRecord new
-StopsBecause new before faults faults_after (stops.Capture offset why) = ShowsOver (Some (stops.Capture offset why)) new × IsOver (Some (stops.Capture offset why)) before
-StopsBecause new before faults faults_after stops.TooLong = ShowsOver (Some stops.TooLong) new × IsOver (Some stops.TooLong) before × (new.served ≡ new.limit)
-StopsBecause new before faults faults_after stop = ⊥
+abbrev pub StopsBecause : Reading → Option Schedule → (Input → ℕ) → (Input → ℕ) → Stop → Type 0
+StopsBecause new before reads reads_after (stops.ReadFault inputs.Capture) = Rose (reads inputs.Capture) (reads_after inputs.Capture) × HoldsNoRecord new
+StopsBecause new before reads reads_after (stops.ReadFault inputs.Script) = Rose (reads inputs.Script) (reads_after inputs.Script) × HoldsNoLine new
+StopsBecause new before reads reads_after (stops.Capture offset why) = ShowsOver (Some (stops.Capture offset why)) new × IsOver (Some (stops.Capture offset why)) before
+StopsBecause new before reads reads_after (stops.Script line why) = ShowsOver (Some (stops.Script line why)) new × IsOver (Some (stops.Script line why)) before
+StopsBecause new before reads reads_after stops.TooLong = ShowsOver (Some stops.TooLong) new × IsOver (Some stops.TooLong) before × (new.served ≡ new.limit)
+StopsBecause new before reads reads_after stop = ⊥
 
--- why there is no reader: no event is to come and the capture is faulty, or a read failed and its count rose
-abbrev pub NewFailed : Option Schedule → ℕ → ℕ → Type 0 → Stop → Type 0
-NewFailed before faults faults_after unread (stops.ReadFault inputs.Capture) = Rose faults faults_after
-NewFailed before faults faults_after unread (stops.Capture offset why) = IsOver (Some (stops.Capture offset why)) before
-NewFailed before faults faults_after unread stops.OutOfMemory = unread
-NewFailed before faults faults_after unread stop = ⊥
+-- a source isn't faulty before its first event
+pub record IsLooked (before : Option Schedule) : Type 0 where
+  pub no_capture_fault : (offset : ℕ) (why : CaptureFault) → before ≢ Some (over (Some (stops.Capture offset why)))
+  pub no_script_fault : (line : ℕ) (why : ScriptFault) → before ≢ Some (over (Some (stops.Script line why)))
+
+-- why there is no reader: no event is to come and a source is faulty, or a read failed and its count rose
+abbrev pub NewFailed : Option Schedule → (Input → ℕ) → (Input → ℕ) → Type 0 → Stop → Type 0
+NewFailed before reads reads_after unread (stops.ReadFault inputs.Capture) = Rose (reads inputs.Capture) (reads_after inputs.Capture)
+NewFailed before reads reads_after unread (stops.ReadFault inputs.Script) = Rose (reads inputs.Script) (reads_after inputs.Script)
+NewFailed before reads reads_after unread (stops.Capture offset why) = IsOver (Some (stops.Capture offset why)) before
+NewFailed before reads reads_after unread (stops.Script line why) = IsOver (Some (stops.Script line why)) before
+NewFailed before reads reads_after unread stops.OutOfMemory = unread
+NewFailed before reads reads_after unread stop = ⊥

@@ -4,12 +4,15 @@ use Rattle.psd_base.specs.declared.outlet.Input.TheVariants as inputs
 use Rattle.psd_base.specs.declared.stop.Stop.{Stop}
 use Rattle.psd_base.specs.declared.stop.Stop.TheVariants as stops
 use Rattle.psd_base.specs.Desk.{Rose}
+use Rattle.psd_base.specs.declared.act.Act.{Act}
 use Rattle.psd_base.specs.declared.event.Event.{Event}
-use Rattle.psd_base.specs.Event.{Happening, Seen, TimePasses, PortActs, seen}
+use Rattle.psd_base.specs.declared.event.What.TheVariants as what
+use Rattle.psd_base.specs.Event.{Seen, HappensWithin, seen}
 use Rattle.capture_reader.specs.declared.decode.TheConstants.{PAYLOAD_MAX}
 use Rattle.capture_reader.specs.declared.form.Form.{Form}
 use Rattle.capture_reader.specs.declared.form.Form.TheVariants as forms
 use Rattle.capture_reader.specs.declared.form.Head.{Head}
+use Rattle.capture_reader.specs.declared.form.Place.{Place}
 use Rattle.capture_reader.specs.declared.source.CaptureSource.{CaptureSource}
 use Rattle.capture_reader.specs.Capture.{Recording, first, none_until, header, head_of, has_fit_length, kind_in, announced, records}
 use Rattle.capture_reader.specs.Window.{Held, coming, still}
@@ -56,11 +59,7 @@ OpenFailed left faults faults_after (stops.ReadFault inputs.Capture) = Rose faul
 OpenFailed left faults faults_after (stops.Capture place why) = IfSome left (λ bytes. header bytes ≡ Err (stops.Capture place why))
 OpenFailed left faults faults_after stop = ⊥
 
--- a port of what happens is one of so many
-abbrev pub HappensWithin : ℕ → Happening → Type 0
-HappensWithin ports TimePasses = Unit {0}
-HappensWithin ports (PortActs port side act) = port ≤ ports
-
+-- the port of a record of this form is one of so many
 abbrev pub IsFormWithin : ℕ → Form → Type 0
 IsFormWithin ports forms.Clock = Unit {0}
 IsFormWithin ports (forms.Act port side kind) = port ≤ ports
@@ -81,3 +80,7 @@ AnnouncesNext source head form = Announces source.ports source.tick source.windo
 -- the next event, whose tick is that of the last record that was read, at one of the ports
 abbrev pub IsNext : CaptureSource → Event → Type 0
 IsNext source event = (event.tick ≡ source.tick) × HappensWithin source.ports (seen event).happening
+
+-- the event of an act at its place
+abbrev pub event_at : Place → Act → Event
+event_at place act = record { tick = place.tick; what = what.Port place.port place.side act }

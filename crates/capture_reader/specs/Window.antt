@@ -1,7 +1,10 @@
 -- The bytes of an input that are taken and not used up, and what reading does to a desk.
-use Rattle.std.specs.Prelude.{◌≡◌, ◌≢◌, ℕ, ◌≤◌, Bool, List, ◌++◌, length, take, Option, option_map, if◌then◌else◌}
+use Rattle.std.specs.Prelude.{◌≡◌, ◌≢◌, ℕ, ◌+◌, ◌≤◌, Bool, true, List, ◌++◌, length, take, Option, None, option_map, position, if◌then◌else◌}
 use Rattle.psd_base.specs.declared.outlet.Input.{Input}
+use Rattle.psd_base.specs.declared.outlet.Input.TheVariants as inputs
 use Rattle.psd_base.specs.declared.outlet.Outlet.{Outlet}
+use Rattle.capture_reader.specs.declared.line.TheConstants.{LINE_MAX}
+use Rattle.capture_reader.specs.Script.{is_line_feed, first_line}
 
 -- the bytes, and whether the end of the input was met
 pub record Held : Type 0 where
@@ -27,3 +30,23 @@ pub record OnlyReads (from : Input) (left left_after : Input → Option (List �
   pub outlets : (outlet : Outlet) → sent_after outlet ≡ sent outlet
   pub read_counts : (input : Input) → read_faults input ≤ read_faults_after input
   pub write_counts : (outlet : Outlet) → write_faults outlet ≤ write_faults_after outlet
+
+-- Reads of the capture and the script leave the rules and all outlets, and no count falls.
+pub record ReadsSources (left left_after : Input → Option (List ℕ)) (sent sent_after : Outlet → Option (List ℕ))
+    (read_faults read_faults_after : Input → ℕ) (write_faults write_faults_after : Outlet → ℕ) : Type 0 where
+  pub rules : left_after inputs.Rules ≡ left inputs.Rules
+  pub outlets : (outlet : Outlet) → sent_after outlet ≡ sent outlet
+  pub read_counts : (input : Input) → read_faults input ≤ read_faults_after input
+  pub write_counts : (outlet : Outlet) → write_faults outlet ≤ write_faults_after outlet
+
+-- no whole line with its line feed
+abbrev pub HasNoLine : List ℕ → Type 0
+HasNoLine bytes = position is_line_feed bytes ≡ None
+
+-- Whatever bytes the desk has left, the first line has so many bytes, or one more than the most and further ones. Where no line
+-- feed ends it, nothing comes behind it.
+pub record FrontLine (held : Held) (size : ℕ) : Type 0 where
+  pub within : size ≤ length held.bytes
+  pub most : size ≤ LINE_MAX + 1
+  pub line : (left : List ℕ) → take (LINE_MAX + 1) (first_line (coming held left)) ≡ take size held.bytes
+  pub last : size ≤ LINE_MAX → length held.bytes ≤ size → held.ended ≡ true

@@ -1,11 +1,11 @@
 //! The bytes of a capture: its header, the heads of its records and their payloads.
-ghost use Rattle.std.specs.Prelude.{◌≡◌, ℕ, ◌+◌, ◌-◌, ◌<◌, ◌≤◌, length, IsTrue, OnOk, IfOk, IfErr, Ok, Err};
+ghost use Rattle.std.specs.Prelude.{◌≡◌, ℕ, ◌+◌, ◌-◌, ◌<◌, ◌≤◌, length, IsTrue, OnOk, OnErr, IfOk, IfErr, IfSome, IsOkAnd, IsSomeAnd, Some, Ok, Err};
 ghost use Rattle.capture_reader.specs.Capture.{header, head_of, kind_of, form_of, has_fit_length, kind_in, announced, act_of, happening_in};
-ghost use Rattle.capture_reader.specs.Source.{IsCaptureStop, IsFormWithin, HappensWithin};
-ghost use Rattle.psd_base.specs.Event.{happening_of, seen};
+ghost use Rattle.capture_reader.specs.Source.{IsCaptureStop, IsFormWithin, event_at};
+ghost use Rattle.psd_base.specs.Event.{HappensWithin, happening_of, seen};
 ghost use Rattle.psd_base.specs.Port.{IsPort};
 
-use crate::form::{ActKind, Form, Head, Kind};
+use crate::form::{ActKind, Form, Head, Kind, Place};
 use psd_base::{
     Act, CaptureFault, Event, MAX_PORTS, Packet, PortId, Setup, Side, Stop, Tick, What,
 };
@@ -164,24 +164,47 @@ pub fn announce(ports: u8, last: Tick, head: &Head) -> Result<Form, CaptureFault
     Ok(form)
 }
 
-/// What a host does, by the payload of such a record.
-#[tactic(auto, unfolding(crate::specs::Capture::act_of, crate::specs::Capture::has_fit_length))]
-fn read_act(kind: ActKind, payload: &[u8]) -> Result<Act, CaptureFault>
+/// Puts an act of a host into its place, by the payload of such a record.
+#[tactic(auto, unfolding(crate::specs::Capture::has_fit_length))]
+fn read_act(
+    at: &Place,
+    kind: ActKind,
+    payload: &[u8],
+    into: &mut Option<Event>,
+) -> Result<(), CaptureFault>
     requires { IsTrue (has_fit_length (Kind.Act kind) (length payload.now)) }
-    ensures { result ≡ act_of kind payload.now }
+    ensures ok { OnOk result (IsOkAnd (act_of kind payload.now) (λ act. into.new ≡ Some (event_at at.now act))) }
+    ensures err { IfErr result (λ why. act_of kind payload.now ≡ Err why) }
+    ensures same { OnErr result (into.new ≡ into.old) }
 {
     match kind {
-        ActKind::Reset => Ok(Act::Reset),
-        ActKind::Setup => read_setup(payload),
-        ActKind::Out => read_out(payload),
-        ActKind::In => read_in(payload),
+        ActKind::Reset => read_reset(at, payload, into),
+        ActKind::Setup => read_setup(at, payload, into),
+        ActKind::Out => read_out(at, payload, into),
+        ActKind::In => read_in(at, payload, into),
     }
 }
 
 #[tactic(auto, unfolding(crate::specs::Capture::act_of))]
-fn read_setup(payload: &[u8]) -> Result<Act, CaptureFault>
+fn read_reset(at: &Place, payload: &[u8], into: &mut Option<Event>) -> Result<(), CaptureFault>
+    requires { length payload.now ≡ 0 }
+    ensures ok { OnOk result (IsOkAnd (act_of ActKind.Reset payload.now) (λ act. into.new ≡ Some (event_at at.now act))) }
+    ensures err { IfErr result (λ why. act_of ActKind.Reset payload.now ≡ Err why) }
+    ensures same { OnErr result (into.new ≡ into.old) }
+{
+    *into = Some(Event {
+        tick: at.tick,
+        what: What::Port(at.port, at.side, Act::Reset),
+    });
+    Ok(())
+}
+
+#[tactic(auto, unfolding(crate::specs::Capture::act_of))]
+fn read_setup(at: &Place, payload: &[u8], into: &mut Option<Event>) -> Result<(), CaptureFault>
     requires { length payload.now ≡ 9 }
-    ensures { result ≡ act_of ActKind.Setup payload.now }
+    ensures ok { OnOk result (IsOkAnd (act_of ActKind.Setup payload.now) (λ act. into.new ≡ Some (event_at at.now act))) }
+    ensures err { IfErr result (λ why. act_of ActKind.Setup payload.now ≡ Err why) }
+    ensures same { OnErr result (into.new ≡ into.old) }
 {
     let address = payload[0];
     if address > 127 {
@@ -191,57 +214,91 @@ fn read_setup(payload: &[u8]) -> Result<Act, CaptureFault>
         payload[1], payload[2], payload[3], payload[4], payload[5], payload[6], payload[7],
         payload[8],
     ]);
-    Ok(Act::Setup { address, setup })
+    *into = Some(Event {
+        tick: at.tick,
+        what: What::Port(at.port, at.side, Act::Setup { address, setup }),
+    });
+    Ok(())
 }
 
 #[tactic(auto, unfolding(crate::specs::Capture::act_of))]
-fn read_out(payload: &[u8]) -> Result<Act, CaptureFault>
+fn read_out(at: &Place, payload: &[u8], into: &mut Option<Event>) -> Result<(), CaptureFault>
     requires at_least { 3 ≤ length payload.now }
     requires at_most { length payload.now ≤ 67 }
-    ensures { result ≡ act_of ActKind.Out payload.now }
+    ensures ok { OnOk result (IsOkAnd (act_of ActKind.Out payload.now) (λ act. into.new ≡ Some (event_at at.now act))) }
+    ensures err { IfErr result (λ why. act_of ActKind.Out payload.now ≡ Err why) }
+    ensures same { OnErr result (into.new ≡ into.old) }
 {
     let (address, endpoint, toggle) = (payload[0], payload[1], payload[2]);
     if address > 127 || endpoint > 15 || toggle > 1 {
         return Err(CaptureFault::BadField);
     }
-    Ok(Act::Out {
-        address,
-        endpoint,
-        toggle: toggle == 1,
-        bytes: Packet::from_slice(&payload[3..]),
-    })
+    *into = Some(Event {
+        tick: at.tick,
+        what: What::Port(
+            at.port,
+            at.side,
+            Act::Out {
+                address,
+                endpoint,
+                toggle: toggle == 1,
+                bytes: Packet::from_slice(&payload[3..]),
+            },
+        ),
+    });
+    Ok(())
 }
 
 #[tactic(auto, unfolding(crate::specs::Capture::act_of))]
-fn read_in(payload: &[u8]) -> Result<Act, CaptureFault>
+fn read_in(at: &Place, payload: &[u8], into: &mut Option<Event>) -> Result<(), CaptureFault>
     requires { length payload.now ≡ 3 }
-    ensures { result ≡ act_of ActKind.In payload.now }
+    ensures ok { OnOk result (IsOkAnd (act_of ActKind.In payload.now) (λ act. into.new ≡ Some (event_at at.now act))) }
+    ensures err { IfErr result (λ why. act_of ActKind.In payload.now ≡ Err why) }
+    ensures same { OnErr result (into.new ≡ into.old) }
 {
     let (address, endpoint, acked) = (payload[0], payload[1], payload[2]);
     if address > 127 || endpoint > 15 || acked > 1 {
         return Err(CaptureFault::BadField);
     }
-    Ok(Act::In {
-        address,
-        endpoint,
-        acked: acked == 1,
-    })
+    *into = Some(Event {
+        tick: at.tick,
+        what: What::Port(
+            at.port,
+            at.side,
+            Act::In {
+                address,
+                endpoint,
+                acked: acked == 1,
+            },
+        ),
+    });
+    Ok(())
 }
 
-/// What happens, by the payload of a record of this form.
+/// Puts the event of a record of this form and tick into its place. An event in its place costs fewer copies than one
+/// that is handed on.
 #[tactic(auto, unfolding(crate::specs::Capture::happening_in))]
-pub fn read_what(form: Form, payload: &[u8]) -> Result<What, CaptureFault>
+pub fn read_event(
+    tick: Tick,
+    form: Form,
+    payload: &[u8],
+    into: &mut Option<Event>,
+) -> Result<(), CaptureFault>
     requires { IsTrue (has_fit_length (kind_in form) (length payload.now)) }
-    ensures ok { IfOk result (λ what. happening_in form payload.now ≡ Ok (happening_of what)) }
+    ensures ok { OnOk result (IsSomeAnd into.new (λ event. (event.tick ≡ tick) × (happening_in form payload.now ≡ Ok (happening_of event.what)))) }
     ensures err { IfErr result (λ why. happening_in form payload.now ≡ Err why) }
-    ensures within { (ports : ℕ) → IsFormWithin ports form → IfOk result (λ what. HappensWithin ports (happening_of what)) }
+    ensures same { OnErr result (into.new ≡ into.old) }
+    ensures within { (ports : ℕ) → IsFormWithin ports form → OnOk result (IfSome into.new (λ event. HappensWithin ports (happening_of event.what))) }
 {
     match form {
-        Form::Clock => Ok(What::Clock),
-        Form::Act(port, side, kind) => {
-            let act = read_act(kind, payload)?;
-            Ok(What::Port(port, side, act))
+        Form::Clock => {
+            *into = Some(Event {
+                tick,
+                what: What::Clock,
+            });
+            Ok(())
         }
+        Form::Act(port, side, kind) => read_act(&Place { tick, port, side }, kind, payload, into),
     }
 }
 
@@ -257,6 +314,10 @@ pub fn duplicate(event: &Event) -> Event
         What::Port(port, side, act) => Event {
             tick: event.tick,
             what: What::Port(*port, *side, act.duplicate()),
+        },
+        What::Panel(panel) => Event {
+            tick: event.tick,
+            what: What::Panel(*panel),
         },
     }
 }

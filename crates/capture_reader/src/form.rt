@@ -1,5 +1,5 @@
-//! What the head of a record says.
-use psd_base::{PortId, Side, Tick};
+//! What the head of a record says, and what a line of the script says.
+use psd_base::{Panel, PortId, Side, Tick};
 
 /// The kinds of act of a host.
 #[derive(Clone, Copy, Debug, PartialEq, Eq)]
@@ -31,4 +31,19 @@ pub struct Head {
 pub enum Form {
     Clock,
     Act(PortId, Side, ActKind),
+}
+
+/// Where an act happens, and when.
+#[derive(Clone, Copy, Debug, PartialEq, Eq)]
+pub struct Place {
+    pub tick: Tick,
+    pub port: PortId,
+    pub side: Side,
+}
+
+/// What a line of the script says: a tick, and a move at the panel.
+#[derive(Clone, Copy, Debug, PartialEq, Eq)]
+pub struct Said {
+    pub tick: Tick,
+    pub panel: Panel,
 }

@@ -1,14 +1,18 @@
-//! Reads a capture, and gives its events one at a time.
+//! Reads a capture and a button script, and gives their events one at a time in the order of the ticks.
 #![tactic(auto)]
 
 mod decode;
 mod form;
+mod line;
+mod next;
 mod progress;
 mod reader;
+mod script;
 mod source;
 mod window;
 
 pub use reader::Reader;
+pub use window::read_behind;
 
 #[cfg(test)]
 mod tests;

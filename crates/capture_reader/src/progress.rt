@@ -1,18 +1,22 @@
-//! How far a run has come: the events that were given, and the one that was read ahead.
+//! How far a run has come: the events that were given, and those that were read ahead of the two sources.
 ghost use Rattle.std.specs.Prelude.{◌≡◌};
 
 use crate::decode::duplicate;
+use crate::next::{Next, next_source};
+use crate::script::ScriptSource;
 use crate::source::CaptureSource;
 use crate::window::Window;
-use psd_base::{CaptureFault, Desk, EVENTS_MAX, Event, Input, MAX_PORTS, Stop};
+use psd_base::{Desk, EVENTS_MAX, Event, Input, MAX_PORTS, Stop, Tick};
 
-/// What became of the last look at the capture.
+/// What became of the last look at the sources.
 #[derive(Clone, Copy, Debug, PartialEq, Eq)]
 pub enum State {
-    /// The event that was read ahead was not given, or there is none.
+    /// No event that was read ahead was given.
     Waiting,
-    /// The event that was read ahead was given.
-    Given,
+    /// The record that was read ahead was given.
+    GivenRecord,
+    /// The line that was read ahead was given.
+    GivenLine,
     /// The run stopped.
     Stopped(Stop),
 }
@@ -21,8 +25,11 @@ pub enum State {
 #[derive(Drop)]
 pub struct Progress {
     pub capture: CaptureSource,
+    pub script: ScriptSource,
     pub limit: u32,
     pub served: u32,
+    /// The tick of the last event that was given.
+    pub tick: Tick,
     pub state: State,
 }
 
@@ -34,62 +41,99 @@ fn again(stop: &Stop) -> Stop
 }
 
 impl Progress {
-    ghost use Rattle.std.specs.Prelude.{◌≡◌, ◌≢◌, ◌⊎◌, ℕ, ◌+◌, ◌≤◌, List, [], true, false, Option, Some, None, Ok, Err};
-    ghost use Rattle.std.specs.Prelude.{option_map, IsSome, IfSome, IfOk, IfErr, OnOk};
+    ghost use Rattle.std.specs.Prelude.{◌≡◌, ◌≢◌, ◌⊎◌, ℕ, ◌+◌, ◌<◌, ◌≤◌, List, [], true, false, Option, Some, None, Ok, Err};
+    ghost use Rattle.std.specs.Prelude.{option_map, IsSome, IfSome, IfNone, IfOk, IfErr, OnOk};
     ghost use Rattle.psd_base.specs.Event.{seen};
-    ghost use Rattle.psd_base.specs.declared.stop.CaptureFault.{CaptureFault};
-    ghost use Rattle.capture_reader.specs.Progress.{reading, IsSound};
-    ghost use Rattle.capture_reader.specs.Reader.{rest, GivesNext, IsAtEnd, IsInOrder, IsOver, NewFailed, ShowsOver, StopsBecause};
-    ghost use Rattle.capture_reader.specs.Source.{later, FailedLook, HappensWithin};
-    ghost use Rattle.capture_reader.specs.Schedule.{over, cut_recording, schedule, port_count};
-    ghost use Rattle.capture_reader.specs.Window.{OnlyReads};
+    ghost use Rattle.capture_reader.specs.Lines.{later_lines_of, lines_with_ahead, FailedLineLook};
+    ghost use Rattle.capture_reader.specs.Progress.{reading, IsOpened, IsUnread, IsLookedAt, IsSound};
+    ghost use Rattle.capture_reader.specs.Reader.{rest, GivesNext, IsAtEnd, IsInOrder, IsLooked, IsOver, NewFailed, ShowsOver, StopsBecause};
+    ghost use Rattle.capture_reader.specs.Schedule.{schedule_told, merged, port_count};
+    ghost use Rattle.capture_reader.specs.Source.{later_of, FailedLook};
+    ghost use Rattle.capture_reader.specs.Window.{OnlyReads, ReadsSources};
 
-    /// Reads the header, and looks at the first record.
-    pub fn begin<D: Desk>(window: Window, desk: &mut D, limit: u32) -> Result<Progress, Stop>
+    /// Reads the capture's header, looks at the first line of the script, and then at the first record.
+    pub fn begin<D: Desk>(
+        capture: Window,
+        script: Window,
+        desk: &mut D,
+        limit: u32,
+    ) -> Result<Progress, Stop>
         requires limit { limit ≤ EVENTS_MAX }
-        requires window { window ≡ record { bytes = []; ended = false } }
+        requires capture { capture ≡ record { bytes = []; ended = false } }
+        requires script { script ≡ record { bytes = []; ended = false } }
         ensures sound { IfOk result IsSound }
-        ensures counts { IfOk result (λ progress. (progress.limit ≡ limit) × (progress.served ≡ 0) × (progress.state ≡ State.Waiting)) }
+        ensures counts { IfOk result (λ progress. (progress.limit ≡ limit) × (progress.served ≡ 0) × (progress.tick ≡ 0) × (progress.state ≡ State.Waiting)) }
         ensures ports { IfOk result (λ progress. IfSome (D.left desk.old Input.Capture)
             (λ bytes. port_count bytes ≡ progress.capture.ports)) }
-        ensures rest { IfOk result (λ progress. rest (reading progress) (D.left desk.new Input.Capture)
-            ≡ option_map (schedule limit) (D.left desk.old Input.Capture)) }
-        ensures looked { OnOk result ((offset : ℕ) (why : CaptureFault)
-            → option_map (schedule limit) (D.left desk.old Input.Capture) ≢ Some (over (Some (Stop.Capture offset why)))) }
-        ensures err { IfErr result (NewFailed (option_map (schedule limit) (D.left desk.old Input.Capture))
-            (D.read_faults desk.old Input.Capture) (D.read_faults desk.new Input.Capture) ⊥) }
-        ensures only { OnlyReads Input.Capture
+        ensures rest { IfOk result (λ progress. rest (reading progress) (D.left desk.new Input.Capture) (D.left desk.new Input.Script)
+            ≡ schedule_told limit (D.left desk.old Input.Capture) (D.left desk.old Input.Script)) }
+        ensures looked { OnOk result (IsLooked (schedule_told limit (D.left desk.old Input.Capture) (D.left desk.old Input.Script))) }
+        ensures err { IfErr result (NewFailed (schedule_told limit (D.left desk.old Input.Capture) (D.left desk.old Input.Script))
+            (D.read_faults desk.old) (D.read_faults desk.new) ⊥) }
+        ensures only { ReadsSources
             (D.left desk.old) (D.left desk.new) (D.sent desk.old) (D.sent desk.new)
             (D.read_faults desk.old) (D.read_faults desk.new)
             (D.write_faults desk.old) (D.write_faults desk.new) }
     {
-        match CaptureSource::open(window, desk) {
-            Ok(capture) => Progress::first_look(capture, desk, limit),
+        match CaptureSource::open(capture, desk) {
+            Ok(capture) => {
+                let script = ScriptSource::new(script, capture.ports);
+                Progress::first_line(capture, script, desk, limit)
+            }
+            Err(stop) => Err(stop),
+        }
+    }
+
+    /// Looks at the first line of the script, and then at the first record.
+    fn first_line<D: Desk>(
+        capture: CaptureSource,
+        script: ScriptSource,
+        desk: &mut D,
+        limit: u32,
+    ) -> Result<Progress, Stop>
+        requires limit { limit ≤ EVENTS_MAX }
+        requires capture { IsOpened capture }
+        requires script { IsUnread capture.ports script }
+        ensures sound { IfOk result IsSound }
+        ensures counts { IfOk result (λ progress. (progress.limit ≡ limit) × (progress.served ≡ 0) × (progress.tick ≡ 0)
+            × (progress.state ≡ State.Waiting) × (progress.capture.ports ≡ capture.ports)) }
+        ensures rest { let before = merged limit (later_of capture (D.left desk.old Input.Capture)) (later_lines_of script (D.left desk.old Input.Script)) in
+            IfOk result (λ progress. rest (reading progress) (D.left desk.new Input.Capture) (D.left desk.new Input.Script) ≡ before) }
+        ensures looked { let before = merged limit (later_of capture (D.left desk.old Input.Capture)) (later_lines_of script (D.left desk.old Input.Script)) in
+            OnOk result (IsLooked before) }
+        ensures err { let before = merged limit (later_of capture (D.left desk.old Input.Capture)) (later_lines_of script (D.left desk.old Input.Script)) in
+            IfErr result (NewFailed before (D.read_faults desk.old) (D.read_faults desk.new) ⊥) }
+        ensures only { ReadsSources
+            (D.left desk.old) (D.left desk.new) (D.sent desk.old) (D.sent desk.new)
+            (D.read_faults desk.old) (D.read_faults desk.new)
+            (D.write_faults desk.old) (D.write_faults desk.new) }
+    {
+        let mut script = script;
+        match script.look(desk) {
+            Ok(()) => Progress::first_record(capture, script, desk, limit),
             Err(stop) => Err(stop),
         }
     }
 
     /// Looks at the first record.
-    fn first_look<D: Desk>(
+    fn first_record<D: Desk>(
         capture: CaptureSource,
+        script: ScriptSource,
         desk: &mut D,
         limit: u32,
     ) -> Result<Progress, Stop>
         requires limit { limit ≤ EVENTS_MAX }
-        requires ports { (2 ≤ capture.ports) × (capture.ports ≤ MAX_PORTS) }
-        requires begin { (capture.tick ≡ 0) × (capture.offset ≡ 8) }
+        requires capture { IsOpened capture }
+        requires script { IsLookedAt capture.ports script }
         ensures sound { IfOk result IsSound }
-        ensures counts { IfOk result (λ progress. (progress.limit ≡ limit) × (progress.served ≡ 0)
+        ensures counts { IfOk result (λ progress. (progress.limit ≡ limit) × (progress.served ≡ 0) × (progress.tick ≡ 0)
             × (progress.state ≡ State.Waiting) × (progress.capture.ports ≡ capture.ports)) }
-        ensures rest { let before = later capture.ports 0 8 capture.window (D.left desk.old Input.Capture) in
-            IfOk result (λ progress. rest (reading progress) (D.left desk.new Input.Capture)
-            ≡ option_map (cut_recording limit) before) }
-        ensures looked { let before = later capture.ports 0 8 capture.window (D.left desk.old Input.Capture) in
-            OnOk result ((offset : ℕ) (why : CaptureFault)
-            → option_map (cut_recording limit) before ≢ Some (over (Some (Stop.Capture offset why)))) }
-        ensures err { let before = later capture.ports 0 8 capture.window (D.left desk.old Input.Capture) in
-            IfErr result (NewFailed (option_map (cut_recording limit) before)
-            (D.read_faults desk.old Input.Capture) (D.read_faults desk.new Input.Capture) ⊥) }
+        ensures rest { (left : Option (List ℕ)) → let before = merged limit (later_of capture (D.left desk.old Input.Capture)) (lines_with_ahead script left) in
+            IfOk result (λ progress. rest (reading progress) (D.left desk.new Input.Capture) left ≡ before) }
+        ensures looked { (left : Option (List ℕ)) → let before = merged limit (later_of capture (D.left desk.old Input.Capture)) (lines_with_ahead script left) in
+            OnOk result (IsLooked before) }
+        ensures err { (left : Option (List ℕ)) → let before = merged limit (later_of capture (D.left desk.old Input.Capture)) (lines_with_ahead script left) in
+            IfErr result (NewFailed before (D.read_faults desk.old) (D.read_faults desk.new) ⊥) }
         ensures only { OnlyReads Input.Capture
             (D.left desk.old) (D.left desk.new) (D.sent desk.old) (D.sent desk.new)
             (D.read_faults desk.old) (D.read_faults desk.new)
@@ -99,8 +143,10 @@ impl Progress {
         match capture.look(desk) {
             Ok(()) => Ok(Progress {
                 capture,
+                script,
                 limit,
                 served: 0,
+                tick: 0,
                 state: State::Waiting,
             }),
             Err(stop) => Err(stop),
@@ -111,32 +157,37 @@ impl Progress {
     pub fn advance<D: Desk>(&mut self, desk: &mut D) -> Result<bool, Stop>
         requires sound { IsSound self.old }
         ensures sound { IsSound self.new }
-        ensures counts { (self.new.limit ≡ self.old.limit) × (self.new.capture.ports ≡ self.old.capture.ports) }
-        ensures tick { self.old.capture.tick ≤ self.new.capture.tick }
+        ensures counts { (self.new.limit ≡ self.old.limit) × (self.new.capture.ports ≡ self.old.capture.ports) × (self.old.tick ≤ self.new.tick) }
 
         ensures next { result ≡ Ok true → GivesNext (reading self.new)
-            (rest (reading self.old) (D.left desk.old Input.Capture)) (rest (reading self.new) (D.left desk.new Input.Capture)) }
+            (rest (reading self.old) (D.left desk.old Input.Capture) (D.left desk.old Input.Script))
+            (rest (reading self.new) (D.left desk.new Input.Capture) (D.left desk.new Input.Script)) }
         ensures served { result ≡ Ok true → self.new.served ≡ self.old.served + 1 }
         ensures going { result ≡ Ok true → (reading self.new).stopped ≡ None }
         ensures order { result ≡ Ok true → IfSome (reading self.new).given
-            (IsInOrder self.old.capture.tick self.new.capture.tick self.new.capture.ports) }
+            (IsInOrder self.old.tick self.new.tick self.new.capture.ports) }
 
         ensures end { result ≡ Ok false → IsAtEnd (reading self.new) × ShowsOver None (reading self.new)
-            × IsOver None (rest (reading self.old) (D.left desk.old Input.Capture)) }
+            × IsOver None (rest (reading self.old) (D.left desk.old Input.Capture) (D.left desk.old Input.Script)) }
         ensures at_end { IsAtEnd (reading self.old) → (result ≡ Ok false) × (self.new ≡ self.old) × (desk.new ≡ desk.old) }
 
         ensures stop { IfErr result (λ stop. (reading self.new).stopped ≡ Some stop) }
         ensures cause { IfErr result (λ stop. ((reading self.old).stopped ≡ Some stop)
-            ⊎ StopsBecause (reading self.new) (rest (reading self.old) (D.left desk.old Input.Capture))
-            (D.read_faults desk.old Input.Capture) (D.read_faults desk.new Input.Capture) stop) }
+            ⊎ StopsBecause (reading self.new) (rest (reading self.old) (D.left desk.old Input.Capture) (D.left desk.old Input.Script))
+            (D.read_faults desk.old) (D.read_faults desk.new) stop) }
         ensures stopped { IfSome (reading self.old).stopped
             (λ stop. (result ≡ Err stop) × (self.new ≡ self.old) × (desk.new ≡ desk.old)) }
 
-        ensures rest { result ≢ Ok true → rest (reading self.new) (D.left desk.new Input.Capture)
-            ≡ rest (reading self.old) (D.left desk.old Input.Capture) }
+        ensures rest { result ≢ Ok true → rest (reading self.new) (D.left desk.new Input.Capture) (D.left desk.new Input.Script)
+            ≡ rest (reading self.old) (D.left desk.old Input.Capture) (D.left desk.old Input.Script) }
         ensures stays { result ≢ Ok true → ((reading self.new).given ≡ None) × (self.new.served ≡ self.old.served) }
-        ensures unread { self.old.capture.window.ended ≡ true → (self.new.capture.window.ended ≡ true) × (desk.new ≡ desk.old) }
-        ensures only { OnlyReads Input.Capture
+
+        ensures unread_capture { self.old.capture.window.ended ≡ true → (self.new.capture.window.ended ≡ true)
+            × (D.left desk.new Input.Capture ≡ D.left desk.old Input.Capture) }
+        ensures unread_script { self.old.script.window.ended ≡ true → (self.new.script.window.ended ≡ true)
+            × (D.left desk.new Input.Script ≡ D.left desk.old Input.Script) }
+        ensures unread { self.old.capture.window.ended ≡ true → self.old.script.window.ended ≡ true → desk.new ≡ desk.old }
+        ensures only { ReadsSources
             (D.left desk.old) (D.left desk.new) (D.sent desk.old) (D.sent desk.new)
             (D.read_faults desk.old) (D.read_faults desk.new)
             (D.write_faults desk.old) (D.write_faults desk.new) }
@@ -144,61 +195,30 @@ impl Progress {
         match &self.state {
             State::Stopped(stop) => Err(again(stop)),
             State::Waiting => self.give(),
-            State::Given => match self.look_on(desk) {
+            State::GivenRecord => match self.look_at_record(desk) {
+                Ok(()) => self.give(),
+                Err(stop) => Err(stop),
+            },
+            State::GivenLine => match self.look_at_line(desk) {
                 Ok(()) => self.give(),
                 Err(stop) => Err(stop),
             },
         }
     }
 
-    /// Gives the event that was read ahead and not given, and answers whether there is one.
-    fn give(&mut self) -> Result<bool, Stop>
-        requires waiting { self.old.state ≡ State.Waiting }
+    /// Looks behind the record that was given.
+    fn look_at_record<D: Desk>(&mut self, desk: &mut D) -> Result<(), Stop>
+        requires given { self.old.state ≡ State.GivenRecord }
         requires sound { IsSound self.old }
         ensures sound { IsSound self.new }
-        ensures counts { (self.new.limit ≡ self.old.limit) × (self.new.capture ≡ self.old.capture) }
-
-        ensures next { result ≡ Ok true → (left : Option (List ℕ))
-            → GivesNext (reading self.new) (rest (reading self.old) left) (rest (reading self.new) left) }
-        ensures served { result ≡ Ok true → self.new.served ≡ self.old.served + 1 }
-        ensures going { result ≡ Ok true → self.new.state ≡ State.Given }
-        ensures order { result ≡ Ok true → IfSome (reading self.new).given
-            (λ event. (event.tick ≡ self.new.capture.tick) × HappensWithin self.new.capture.ports event.happening) }
-        ensures end { result ≡ Ok false → (self.new ≡ self.old) × (self.old.capture.ahead ≡ None)
-            × ShowsOver None (reading self.new) }
-        ensures none { self.old.capture.ahead ≡ None → (result ≡ Ok false) × (self.new ≡ self.old) }
-        ensures rest { result ≢ Ok true → (left : Option (List ℕ))
-            → rest (reading self.new) left ≡ rest (reading self.old) left }
-        ensures stop { IfErr result (λ stop. (stop ≡ Stop.TooLong)
-            × (self.new ≡ record self.old { state = State.Stopped Stop.TooLong })
-            × ShowsOver (Some Stop.TooLong) (reading self.new) × (self.old.served ≡ self.old.limit)) }
-    {
-        if self.capture.ahead.is_none() {
-            return Ok(false);
-        }
-        if self.served == self.limit {
-            self.state = State::Stopped(Stop::TooLong);
-            return Err(Stop::TooLong);
-        }
-        self.served += 1;
-        self.state = State::Given;
-        Ok(true)
-    }
-
-    /// Looks behind the event that was given.
-    pub fn look_on<D: Desk>(&mut self, desk: &mut D) -> Result<(), Stop>
-        requires given { self.old.state ≡ State.Given }
-        requires sound { IsSound self.old }
-        ensures counts { (self.new.limit ≡ self.old.limit) × (self.new.served ≡ self.old.served)
-            × (self.new.capture.ports ≡ self.old.capture.ports) }
-        ensures tick { self.old.capture.tick ≤ self.new.capture.tick }
-        ensures rest { rest (reading self.new) (D.left desk.new Input.Capture)
-            ≡ rest (reading self.old) (D.left desk.old Input.Capture) }
+        ensures counts { (self.new.limit ≡ self.old.limit) × (self.new.served ≡ self.old.served) × (self.new.tick ≡ self.old.tick)
+            × (self.new.capture.ports ≡ self.old.capture.ports) × (self.new.script ≡ self.old.script) }
+        ensures rest { (left : Option (List ℕ)) → rest (reading self.new) (D.left desk.new Input.Capture) left
+            ≡ rest (reading self.old) (D.left desk.old Input.Capture) left }
         ensures unread { self.old.capture.window.ended ≡ true → (self.new.capture.window.ended ≡ true) × (desk.new ≡ desk.old) }
         ensures ok { OnOk result (self.new.state ≡ State.Waiting) }
         ensures err { IfErr result (λ stop. (self.new.state ≡ State.Stopped stop) × (self.new.capture.ahead ≡ None)
             × FailedLook self.new.capture (D.read_faults desk.old Input.Capture) (D.read_faults desk.new Input.Capture) stop) }
-        ensures sound { IsSound self.new }
         ensures only { OnlyReads Input.Capture
             (D.left desk.old) (D.left desk.new) (D.sent desk.old) (D.sent desk.new)
             (D.read_faults desk.old) (D.read_faults desk.new)
@@ -217,15 +237,92 @@ impl Progress {
         }
     }
 
+    /// Looks behind the line that was given.
+    fn look_at_line<D: Desk>(&mut self, desk: &mut D) -> Result<(), Stop>
+        requires given { self.old.state ≡ State.GivenLine }
+        requires sound { IsSound self.old }
+        ensures sound { IsSound self.new }
+        ensures counts { (self.new.limit ≡ self.old.limit) × (self.new.served ≡ self.old.served) × (self.new.tick ≡ self.old.tick)
+            × (self.new.capture ≡ self.old.capture) }
+        ensures rest { (left : Option (List ℕ)) → rest (reading self.new) left (D.left desk.new Input.Script)
+            ≡ rest (reading self.old) left (D.left desk.old Input.Script) }
+        ensures unread { self.old.script.window.ended ≡ true → (self.new.script.window.ended ≡ true) × (desk.new ≡ desk.old) }
+        ensures ok { OnOk result (self.new.state ≡ State.Waiting) }
+        ensures err { IfErr result (λ stop. (self.new.state ≡ State.Stopped stop) × (self.new.script.ahead ≡ None)
+            × FailedLineLook self.new.script (D.read_faults desk.old Input.Script) (D.read_faults desk.new Input.Script) stop) }
+        ensures only { OnlyReads Input.Script
+            (D.left desk.old) (D.left desk.new) (D.sent desk.old) (D.sent desk.new)
+            (D.read_faults desk.old) (D.read_faults desk.new)
+            (D.write_faults desk.old) (D.write_faults desk.new) }
+    {
+        match self.script.look(desk) {
+            Ok(()) => {
+                self.state = State::Waiting;
+                Ok(())
+            }
+            Err(stop) => {
+                let answer = again(&stop);
+                self.state = State::Stopped(stop);
+                Err(answer)
+            }
+        }
+    }
+
+    /// Gives the next of the events that were read ahead and not given, and answers whether there is one.
+    fn give(&mut self) -> Result<bool, Stop>
+        requires waiting { self.old.state ≡ State.Waiting }
+        requires sound { IsSound self.old }
+        ensures sound { IsSound self.new }
+        ensures counts { (self.new.limit ≡ self.old.limit) × (self.new.capture ≡ self.old.capture) × (self.new.script ≡ self.old.script)
+            × (self.old.tick ≤ self.new.tick) }
+
+        ensures next { result ≡ Ok true → (capture script : Option (List ℕ))
+            → GivesNext (reading self.new) (rest (reading self.old) capture script) (rest (reading self.new) capture script) }
+        ensures served { result ≡ Ok true → self.new.served ≡ self.old.served + 1 }
+        ensures going { result ≡ Ok true → (reading self.new).stopped ≡ None }
+        ensures order { result ≡ Ok true → IfSome (reading self.new).given
+            (IsInOrder self.old.tick self.new.tick self.new.capture.ports) }
+        ensures end { result ≡ Ok false → (self.new ≡ self.old) × (self.old.capture.ahead ≡ None) × (self.old.script.ahead ≡ None)
+            × ShowsOver None (reading self.new) }
+        ensures none { self.old.capture.ahead ≡ None → self.old.script.ahead ≡ None → (result ≡ Ok false) × (self.new ≡ self.old) }
+        ensures rest { result ≢ Ok true → (capture script : Option (List ℕ))
+            → rest (reading self.new) capture script ≡ rest (reading self.old) capture script }
+        ensures stop { IfErr result (λ stop. (stop ≡ Stop.TooLong)
+            × (self.new ≡ record self.old { state = State.Stopped Stop.TooLong })
+            × ShowsOver (Some Stop.TooLong) (reading self.new) × (self.old.served ≡ self.old.limit)) }
+    {
+        match next_source(&self.capture.ahead, &self.script.ahead) {
+            Next::Record => self.go_on(State::GivenRecord, self.capture.tick),
+            Next::Line => self.go_on(State::GivenLine, self.script.tick),
+            Next::End => Ok(false),
+        }
+    }
+
+    /// Counts an event of this tick as given, unless it is one too many.
+    fn go_on(&mut self, given: State, tick: Tick) -> Result<bool, Stop>
+        requires { self.old.served ≤ self.old.limit }
+        ensures more { result ≡ Ok true → (self.old.served < self.old.limit)
+            × (self.new ≡ record self.old { served = self.old.served + 1; tick = tick; state = given }) }
+        ensures some { result ≢ Ok false }
+        ensures full { IfErr result (λ stop. (stop ≡ Stop.TooLong) × (self.old.served ≡ self.old.limit)
+            × (self.new ≡ record self.old { state = State.Stopped Stop.TooLong })) }
+    {
+        if self.served == self.limit {
+            self.state = State::Stopped(Stop::TooLong);
+            return Err(Stop::TooLong);
+        }
+        self.served += 1;
+        self.tick = tick;
+        self.state = given;
+        Ok(true)
+    }
+
     /// The event that was given.
     pub fn event(&self) -> Event
         requires given { IsSome (reading self.now).given }
         ensures { Some (seen result) ≡ (reading self.now).given }
     {
-        match &self.capture.ahead {
-            Some(event) => duplicate(event),
-            None => unreachable!(),
-        }
+        duplicate(self.event_ref())
     }
 
     /// The event that was given, lent.
@@ -233,9 +330,17 @@ impl Progress {
         requires given { IsSome (reading self.now).given }
         ensures { Some (seen result.now) ≡ (reading self.now).given }
     {
-        match &self.capture.ahead {
-            Some(event) => event,
-            None => unreachable!(),
+        match &self.state {
+            State::GivenRecord => match &self.capture.ahead {
+                Some(event) => event,
+                None => unreachable!(),
+            },
+            State::GivenLine => match &self.script.ahead {
+                Some(event) => event,
+                None => unreachable!(),
+            },
+            State::Waiting => unreachable!(),
+            State::Stopped(_) => unreachable!(),
         }
     }
 }

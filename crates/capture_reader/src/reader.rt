@@ -1,20 +1,19 @@
-//! Gives the events of a capture, one at a time.
-ghost use Rattle.std.specs.Prelude.{◌≡◌, ◌≢◌, ◌⊎◌, ℕ, ◌+◌, ◌≤◌, true, false, Some, None, Ok, Err, option_map};
+//! Gives the events of a capture and of a button script, one at a time.
+ghost use Rattle.std.specs.Prelude.{◌≡◌, ◌≢◌, ◌⊎◌, ◌+◌, ◌≤◌, [], true, false, Some, None, Ok, Err};
 ghost use Rattle.std.specs.Prelude.{IsSome, IfOk, IfSome, IfErr, OnOk};
-ghost use Rattle.psd_base.specs.declared.stop.CaptureFault.{CaptureFault};
 ghost use Rattle.psd_base.specs.Event.{seen};
-ghost use Rattle.capture_reader.specs.Reader.{rest, GivesNext, IsAtEnd, IsOver, ShowsOver, StopsBecause, NewFailed, IsInOrder};
-ghost use Rattle.capture_reader.specs.Schedule.{over, schedule, port_count};
-ghost use Rattle.capture_reader.specs.Window.{OnlyReads};
+ghost use Rattle.capture_reader.specs.Reader.{rest, GivesNext, IsAtEnd, IsOver, ShowsOver, StopsBecause, NewFailed, IsInOrder, IsLooked};
+ghost use Rattle.capture_reader.specs.Schedule.{schedule_told, port_count};
+ghost use Rattle.capture_reader.specs.Window.{ReadsSources};
 
 use crate::progress::Progress;
 use crate::window::Window;
-use psd_base::{CaptureFault, Desk, EVENTS_MAX, Event, Input, MAX_PORTS, Stop};
-use std::alloc::Global;
+use psd_base::{Desk, EVENTS_MAX, Event, Input, MAX_PORTS, Stop};
+use std::alloc::{AllocError, Global};
 use std::marker::Model;
 
-/// Reads a capture from a desk, and gives its events one at a time. It looks one record ahead. After a stop each call
-/// answers the same stop.
+/// Reads a capture and a button script from a desk, and gives their events one at a time in the order of the ticks, at
+/// equal ticks those of the script first. It looks one event ahead in each. After a stop each call answers the same stop.
 #[derive(Drop)]
 pub struct Reader {
     progress: Progress,
@@ -33,30 +32,29 @@ impl Model for Reader {
 }
 
 impl Reader {
-    /// Takes a buffer, reads the header of the capture, and looks at its first record. The reader gives at most `limit`
-    /// events. An `Err` is a fault of the capture at which no event comes, a read that failed, or want of memory, before
-    /// any read.
+    /// Takes its buffers, reads the header of the capture, and looks at the first line of the script and then at the
+    /// first record. The reader gives at most `limit` events. An `Err` is a fault of the capture or of the script at
+    /// which no event comes, a read that failed, or want of memory, before any read.
     pub fn new<D: Desk>(alloc: Global, desk: &mut D, limit: u32) -> Result<Reader, Stop>
         requires { limit ≤ EVENTS_MAX }
-        ensures rest { IfOk result (λ reader. rest reader (D.left desk.new Input.Capture)
-            ≡ option_map (schedule limit) (D.left desk.old Input.Capture)) }
+        ensures rest { IfOk result (λ reader. rest reader (D.left desk.new Input.Capture) (D.left desk.new Input.Script)
+            ≡ schedule_told limit (D.left desk.old Input.Capture) (D.left desk.old Input.Script)) }
         ensures ports { IfOk result (λ reader. IfSome (D.left desk.old Input.Capture) (λ bytes. port_count bytes ≡ reader.ports)
             × (2 ≤ reader.ports) × (reader.ports ≤ MAX_PORTS)) }
         ensures fresh { IfOk result (λ reader. (reader.limit ≡ limit) × (reader.served ≡ 0)
             × (reader.given ≡ None) × (reader.stopped ≡ None)) }
 
-        // No reader where the capture is faulty and no event comes.
-        ensures looked { OnOk result ((offset : ℕ) (why : CaptureFault)
-            → option_map (schedule limit) (D.left desk.old Input.Capture) ≢ Some (over (Some (Stop.Capture offset why)))) }
-        ensures err { IfErr result (NewFailed (option_map (schedule limit) (D.left desk.old Input.Capture))
-            (D.read_faults desk.old Input.Capture) (D.read_faults desk.new Input.Capture) (desk.new ≡ desk.old)) }
-        ensures desk { OnlyReads Input.Capture
+        // No reader where a source is faulty and no event comes.
+        ensures looked { OnOk result (IsLooked (schedule_told limit (D.left desk.old Input.Capture) (D.left desk.old Input.Script))) }
+        ensures err { IfErr result (NewFailed (schedule_told limit (D.left desk.old Input.Capture) (D.left desk.old Input.Script))
+            (D.read_faults desk.old) (D.read_faults desk.new) (desk.new ≡ desk.old)) }
+        ensures desk { ReadsSources
             (D.left desk.old) (D.left desk.new) (D.sent desk.old) (D.sent desk.new)
             (D.read_faults desk.old) (D.read_faults desk.new)
             (D.write_faults desk.old) (D.write_faults desk.new) }
     {
-        match Window::new(alloc) {
-            Ok(window) => match Progress::begin(window, desk, limit) {
+        match buffers(alloc) {
+            Ok((capture, script)) => match Progress::begin(capture, script, desk, limit) {
                 Ok(progress) => Ok(Reader { progress }),
                 Err(stop) => Err(stop),
             },
@@ -81,12 +79,14 @@ impl Reader {
         self.progress.served
     }
 
-    /// Goes on to the next event, and answers whether there is one, which `event` then gives. An `Err` is a fault of the
-    /// capture, a read that failed, or a further event after as many as the limit allows. The events' ticks never fall.
+    /// Goes on to the next event, and answers whether there is one, which `event` then gives. It first looks behind the
+    /// event that was given before, in that event's source. An `Err` is a fault of that source, a read of it that failed,
+    /// or a further event after as many as the limit allows. The events' ticks never fall.
     pub fn advance<D: Desk>(&mut self, desk: &mut D) -> Result<bool, Stop>
         // There is an event: the next of those that were to come.
         ensures next { result ≡ Ok true → GivesNext self.new
-            (rest self.old (D.left desk.old Input.Capture)) (rest self.new (D.left desk.new Input.Capture)) }
+            (rest self.old (D.left desk.old Input.Capture) (D.left desk.old Input.Script))
+            (rest self.new (D.left desk.new Input.Capture) (D.left desk.new Input.Script)) }
         ensures served { result ≡ Ok true → self.new.served ≡ self.old.served + 1 }
         ensures going { result ≡ Ok true → self.new.stopped ≡ None }
         ensures within { self.new.served ≤ self.new.limit }
@@ -94,26 +94,30 @@ impl Reader {
 
         // There is none, at this call and at each later one.
         ensures end { result ≡ Ok false → IsAtEnd self.new × ShowsOver None self.new
-            × IsOver None (rest self.old (D.left desk.old Input.Capture)) }
+            × IsOver None (rest self.old (D.left desk.old Input.Capture) (D.left desk.old Input.Script)) }
         ensures at_end { IsAtEnd self.old → (result ≡ Ok false) × (self.new ≡ self.old) × (desk.new ≡ desk.old) }
 
         // It stops, at this call or an earlier one.
         ensures stop { IfErr result (λ stop. self.new.stopped ≡ Some stop) }
         ensures cause { IfErr result (λ stop. (self.old.stopped ≡ Some stop)
-            ⊎ StopsBecause self.new (rest self.old (D.left desk.old Input.Capture))
-            (D.read_faults desk.old Input.Capture) (D.read_faults desk.new Input.Capture) stop) }
+            ⊎ StopsBecause self.new (rest self.old (D.left desk.old Input.Capture) (D.left desk.old Input.Script))
+            (D.read_faults desk.old) (D.read_faults desk.new) stop) }
         ensures stopped { IfSome self.old.stopped (λ stop. (result ≡ Err stop) × (self.new ≡ self.old) × (desk.new ≡ desk.old)) }
 
         // Without an event nothing is lost.
-        ensures rest { result ≢ Ok true → rest self.new (D.left desk.new Input.Capture)
-            ≡ rest self.old (D.left desk.old Input.Capture) }
+        ensures rest { result ≢ Ok true → rest self.new (D.left desk.new Input.Capture) (D.left desk.new Input.Script)
+            ≡ rest self.old (D.left desk.old Input.Capture) (D.left desk.old Input.Script) }
         ensures stays { result ≢ Ok true → (self.new.given ≡ None) × (self.new.served ≡ self.old.served) }
 
-        // Behind the end of the capture nothing is read.
-        ensures unread { self.old.held.ended ≡ true → (self.new.held.ended ≡ true) × (desk.new ≡ desk.old) }
+        // Behind the end of a source it isn't read.
+        ensures unread_capture { self.old.capture.held.ended ≡ true → (self.new.capture.held.ended ≡ true)
+            × (D.left desk.new Input.Capture ≡ D.left desk.old Input.Capture) }
+        ensures unread_script { self.old.script.held.ended ≡ true → (self.new.script.held.ended ≡ true)
+            × (D.left desk.new Input.Script ≡ D.left desk.old Input.Script) }
+        ensures unread { self.old.capture.held.ended ≡ true → self.old.script.held.ended ≡ true → desk.new ≡ desk.old }
 
         ensures counts { (self.new.limit ≡ self.old.limit) × (self.new.ports ≡ self.old.ports) × (self.old.tick ≤ self.new.tick) }
-        ensures desk { OnlyReads Input.Capture
+        ensures desk { ReadsSources
             (D.left desk.old) (D.left desk.new) (D.sent desk.old) (D.sent desk.new)
             (D.read_faults desk.old) (D.read_faults desk.new)
             (D.write_faults desk.old) (D.write_faults desk.new) }
@@ -136,4 +140,13 @@ impl Reader {
     {
         self.progress.event_ref()
     }
+}
+
+/// The buffers of the capture and of the script.
+fn buffers(alloc: Global) -> Result<(Window, Window), AllocError>
+    ensures { IfOk result (λ windows. (windows.0 ≡ record { bytes = []; ended = false }) × (windows.1 ≡ record { bytes = []; ended = false })) }
+{
+    let capture = Window::new(alloc)?;
+    let script = Window::new(alloc)?;
+    Ok((capture, script))
 }

@@ -1,5 +1,5 @@
 //! A capture as a source of events, read one record ahead.
-use crate::decode::{HEAD_SIZE, announce, read_head, read_header, read_what};
+use crate::decode::{HEAD_SIZE, announce, read_event, read_head, read_header};
 use crate::form::{Form, Head};
 use crate::window::{WINDOW_SIZE, Window};
 use psd_base::{CaptureFault, Desk, Event, Input, MAX_PORTS, Stop, Tick};
@@ -20,7 +20,7 @@ impl CaptureSource {
     ghost use Rattle.std.specs.Prelude.{◌≡◌, ℕ, ◌+◌, ◌<◌, ◌≤◌, ◌^◌, List, [], length, drop, true, false, Some, None, Ok, Err, option_map};
     ghost use Rattle.std.specs.Prelude.{IfOk, IfErr, IfSome, IfNone, IsSomeAnd, OnOk, OnErr};
     ghost use Rattle.psd_base.specs.Event.{seen};
-    ghost use Rattle.capture_reader.specs.Capture.{header, capture, first, size_of, records};
+    ghost use Rattle.capture_reader.specs.Capture.{header, first, size_of, records};
     ghost use Rattle.capture_reader.specs.Source.{later, later_of, after_ahead, AnnouncesNext, EndsNow, FailedLook, IsCaptureStop, IsNext, LookFailed, OpenFailed};
     ghost use Rattle.capture_reader.specs.Window.{coming, still, OnlyReads};
 
@@ -30,7 +30,7 @@ impl CaptureSource {
         ensures ports { IfOk result (λ source. (2 ≤ source.ports) × (source.ports ≤ MAX_PORTS)) }
         ensures begin { IfOk result (λ source. (source.tick ≡ 0) × (source.offset ≡ 8) × (source.ahead ≡ None)) }
         ensures header { IfOk result (λ source. IfSome (D.left desk.old Input.Capture) (λ bytes. header bytes ≡ Ok source.ports)) }
-        ensures records { IfOk result (λ source. option_map capture (D.left desk.old Input.Capture)
+        ensures records { IfOk result (λ source. option_map (λ bytes. records source.ports 0 8 0 (drop 8 bytes)) (D.left desk.old Input.Capture)
             ≡ later source.ports 0 8 source.window (D.left desk.new Input.Capture)) }
         ensures err { IfErr result (OpenFailed (D.left desk.old Input.Capture)
             (D.read_faults desk.old Input.Capture) (D.read_faults desk.new Input.Capture)) }
@@ -100,11 +100,22 @@ impl CaptureSource {
             (D.read_faults desk.old) (D.read_faults desk.new)
             (D.write_faults desk.old) (D.write_faults desk.new) }
     {
-        self.ahead = None;
         match self.window.hold(desk, Input::Capture, HEAD_SIZE) {
-            Ok(true) => self.look_at_head(desk),
-            Ok(false) => self.end(),
-            Err(_) => Err(Stop::ReadFault(Input::Capture)),
+            Ok(true) => match self.look_at_head(desk) {
+                Ok(()) => Ok(()),
+                Err(stop) => {
+                    self.ahead = None;
+                    Err(stop)
+                }
+            },
+            Ok(false) => {
+                self.ahead = None;
+                self.end()
+            }
+            Err(_) => {
+                self.ahead = None;
+                Err(Stop::ReadFault(Input::Capture))
+            }
         }
     }
 
@@ -212,18 +223,14 @@ impl CaptureSource {
     {
         let size = HEAD_SIZE + head.length as usize;
         let payload = &self.window.bytes()[HEAD_SIZE..size];
-        match read_what(form, payload) {
-            Ok(what) => {
+        match read_event(head.tick, form, payload, &mut self.ahead) {
+            Ok(()) => {
                 self.window.drop_front(size);
                 self.offset += size as u64;
                 self.tick = head.tick;
-                self.ahead = Some(Event {
-                    tick: head.tick,
-                    what,
-                });
                 Ok(())
             }
-            Err(field) => Err(self.fault(field)),
+            Err(why) => Err(self.fault(why)),
         }
     }
 }

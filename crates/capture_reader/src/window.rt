@@ -1,8 +1,10 @@
 //! The bytes that were taken of an input and are not used up.
-ghost use Rattle.std.specs.Prelude.{◌≡◌, ◌⊎◌, ◌+◌, ◌-◌, ◌<◌, ◌≤◌, List, [], ◌++◌, length, take, drop, true, false, option_map, Ok, IsTrue, IfOk, IfSome, OnOk, OnErr, slice_range};
+ghost use Rattle.std.specs.Prelude.{◌≡◌, ◌⊎◌, ◌+◌, ◌-◌, ◌<◌, ◌≤◌, List, [], ◌++◌, length, take, drop, true, false, option_map, Ok, IfOk, IfSome, IfNone, OnOk, OnErr, position, slice_range};
 ghost use Rattle.psd_base.specs.Desk.{Rose};
-ghost use Rattle.capture_reader.specs.Window.{Held, still, Begins, OnlyReads};
+ghost use Rattle.capture_reader.specs.Script.{is_line_feed};
+ghost use Rattle.capture_reader.specs.Window.{Held, still, Begins, FrontLine, HasNoLine, OnlyReads};
 
+use crate::line::LINE_MAX;
 use psd_base::{Desk, DeskFailed, Input};
 use std::alloc::{AllocError, Global};
 use std::marker::Model;
@@ -108,6 +110,36 @@ impl Window {
         Ok(true)
     }
 
+    /// Reads on until the first line is held, or one byte more than the most of a line, or the end of the input is met.
+    /// Answers how many bytes the line has. It reads no further than it must, and a read that failed leaves what is held.
+    pub fn hold_line<D: Desk>(&mut self, desk: &mut D, from: Input) -> Result<usize, DeskFailed>
+        ensures still { still self.new (D.left desk.new from) ≡ still self.old (D.left desk.old from) }
+        ensures line { IfOk result (FrontLine self.new) }
+        ensures part { OnErr result (HasNoLine self.new.bytes) }
+        ensures unread { self.old.ended ≡ true → (self.new ≡ self.old) × (desk.new ≡ desk.old) }
+        ensures failed { OnErr result (Rose (D.read_faults desk.old from) (D.read_faults desk.new from)) }
+        ensures only { OnlyReads from
+            (D.left desk.old) (D.left desk.new) (D.sent desk.old) (D.sent desk.new)
+            (D.read_faults desk.old) (D.read_faults desk.new)
+            (D.write_faults desk.old) (D.write_faults desk.new) }
+    {
+        'reads: loop {
+            match line_size(self.bytes(), self.ended) {
+                Some(size) => return Ok(size),
+                None => self.refill(desk, from)?,
+            }
+        }
+    }
+
+    /// The first line is used up, and the line feed behind it, if there is one.
+    pub fn drop_line(&mut self, size: usize)
+        requires { size ≤ length self.old.bytes }
+        ensures { self.new ≡ record self.old { bytes = drop (size + 1) self.old.bytes } }
+    {
+        let held = self.len();
+        self.drop_front(if size < held { size + 1 } else { size });
+    }
+
     /// Reads once behind what is held.
     #[cold]
     #[inline(never)]
@@ -135,6 +167,30 @@ impl Window {
     }
 }
 
+/// How many bytes the first line has, where these bytes tell, behind which there are none at the end of the input.
+fn line_size(bytes: &[u8], ended: bool) -> Option<usize>
+    ensures found { IfSome result (FrontLine (record { bytes = bytes.now; ended = ended })) }
+    ensures none { IfNone result (HasNoLine bytes.now × (length bytes.now ≤ LINE_MAX) × (ended ≡ false)) }
+{
+    let front = &bytes[..(LINE_MAX + 1).min(bytes.len())];
+    match line_feed_at(front) {
+        Some(size) => Some(size),
+        None => {
+            if front.len() > LINE_MAX {
+                return Some(LINE_MAX + 1);
+            }
+            if ended { Some(front.len()) } else { None }
+        }
+    }
+}
+
+/// The place of the first line feed.
+fn line_feed_at(bytes: &[u8]) -> Option<usize>
+    ensures { result ≡ position is_line_feed bytes.now }
+{
+    bytes.iter().position(|byte| *byte == b'\n')
+}
+
 /// Moves a part of the buffer to its front.
 fn move_to_front(buffer: &mut Vec<u8>, start: usize, end: usize)
     requires ordered { start ≤ end }
@@ -146,7 +202,7 @@ fn move_to_front(buffer: &mut Vec<u8>, start: usize, end: usize)
 }
 
 /// Reads once into the buffer from `end` on.
-fn read_behind<D: Desk>(
+pub fn read_behind<D: Desk>(
     desk: &mut D,
     from: Input,
     buffer: &mut [u8],

@@ -1,6 +1,7 @@
 //! The function of an emulated device: what it answers beyond the requests that every device has.
-ghost use Rattle.std.specs.Prelude.{◌≡◌, ℕ, ◌≤◌, List, length, Option, Bool, IsTrue, IfSome};
+ghost use Rattle.std.specs.Prelude.{◌≡◌, ℕ, ◌≤◌, List, length, Option, Bool, false, IsTrue, IfSome};
 ghost use Rattle.std.specs.Option.{option_copied};
+ghost use Rattle.psd_base.specs.declared.packet.TheConstants.{PACKET_SIZE, BLOCK_SIZE};
 
 use psd_base::event::Tick;
 use psd_base::packet::Packet;
@@ -35,15 +36,18 @@ pub trait Function {
         ensures { result ≡ takes_class setup.now };
 
     /// Carries out a class request that was completed at this tick, with the bytes that the host sent. Where the device
-    /// doesn't have the request it changes nothing.
+    /// doesn't have the request it changes nothing (`refuses_class`).
     fn class_out(&mut self, tick: Tick, setup: &Setup, bytes: &[u8])
         requires whole { length bytes.now ≡ setup.now.length }
-        requires fits { length bytes.now ≤ 64 }
+        requires fits { length bytes.now ≤ PACKET_SIZE }
         ensures { self.new ≡ after_class self.old tick setup.now bytes.now };
 
-    ghost short_descriptor: { (device : Self) (setup : Setup) → IfSome (descriptor_of device setup) (λ bytes. length bytes ≤ 1024) };
+    ghost short_descriptor: { (device : Self) (setup : Setup) → IfSome (descriptor_of device setup) (λ bytes. length bytes ≤ BLOCK_SIZE) };
 
-    ghost short_class: { (setup : Setup) → IsTrue (takes_class setup) → setup.length ≤ 64 };
+    ghost short_class: { (setup : Setup) → IsTrue (takes_class setup) → setup.length ≤ PACKET_SIZE };
+
+    ghost refuses_class: { (device : Self) (tick : ℕ) (setup : Setup) (bytes : List ℕ) → takes_class setup ≡ false
+        → after_class device tick setup bytes ≡ device };
 
     ghost keeps_descriptors: { (device : Self) (tick : ℕ) (setup : Setup) (bytes : List ℕ) (other : Setup)
         → descriptor_of (after_class device tick setup bytes) other ≡ descriptor_of device other };

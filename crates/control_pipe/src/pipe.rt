@@ -52,10 +52,29 @@ impl<F: Function> Pipe<F> {
         }
     }
 
-    /// Takes a bus reset or a transaction at endpoint 0 (USB 2.0, 8.5.3), at this tick. Gives what the act is answered
-    /// and what it completed.
+    /// Takes a bus reset or a transaction at endpoint 0 (USB 2.0, 8.5.3), at this tick. Writes what the act is answered
+    /// to `answer`, over what was there, and gives what the act completed.
     ///
     /// The promises hold for each history for which the pipe stood before the act.
+    pub fn answer(&mut self, tick: Tick, act: &Act, answer: &mut Answer) -> Effect
+        requires { IsTrue (is_control_act act.now) }
+        ensures stands { (past : List ControlAct) → PipeStands self.old past
+            → PipeStands self.new (moment_of (F.descriptor_of self.old.function)
+            (F.class_input_of self.old.function) F.takes_class act.now ∷ past) }
+        ensures answer { (past : List ControlAct) → PipeStands self.old past
+            → answer.new ≡ control_answer past act.now }
+        ensures effect { (past : List ControlAct) → PipeStands self.old past
+            → result ≡ control_effect past (moment_of (F.descriptor_of self.old.function)
+            (F.class_input_of self.old.function) F.takes_class act.now) }
+
+        // A class request is carried out once, at the act that completes it, and nothing else changes the function.
+        ensures function { (past : List ControlAct) → PipeStands self.old past
+            → self.new.function ≡ control_function F.after_class past tick act.now self.old.function }
+    {
+        self.step(tick, act, answer)
+    }
+
+    /// Takes an act as `answer` does, and gives the answer too.
     pub fn act(&mut self, tick: Tick, act: &Act) -> Reaction
         requires { IsTrue (is_control_act act.now) }
         ensures stands { (past : List ControlAct) → PipeStands self.old past
@@ -66,12 +85,12 @@ impl<F: Function> Pipe<F> {
         ensures effect { (past : List ControlAct) → PipeStands self.old past
             → result.effect ≡ control_effect past (moment_of (F.descriptor_of self.old.function)
             (F.class_input_of self.old.function) F.takes_class act.now) }
-
-        // A class request is carried out once, at the act that completes it, and nothing else changes the function.
         ensures function { (past : List ControlAct) → PipeStands self.old past
             → self.new.function ≡ control_function F.after_class past tick act.now self.old.function }
     {
-        self.step(tick, act)
+        let mut answer = Answer::Silent;
+        let effect = self.answer(tick, act, &mut answer);
+        Reaction { answer, effect }
     }
 
     /// The device's address (USB 2.0, 9.4.6).
@@ -110,27 +129,25 @@ impl<F: Function> Pipe<F> {
         &mut self.function
     }
 
-    /// Takes an act. Its contract is the exact step, from which `act` promises what holds over all histories.
-    fn step(&mut self, tick: Tick, act: &Act) -> Reaction
+    /// Takes an act. Its contract is the exact step, from which `answer` promises what holds over all histories.
+    fn step(&mut self, tick: Tick, act: &Act, answer: &mut Answer) -> Effect
         ensures registers { self.new.registers ≡ registers_at self.old.registers self.old.progress act.now }
         ensures progress { self.new.progress ≡ progress_at self.old.registers self.old.progress
             (offer_at (F.descriptor_of self.old.function) (F.class_input_of self.old.function) F.takes_class act.now) act.now }
         ensures function { self.new.function ≡ completed_function F.after_class tick
             (completed_by self.old.registers self.old.progress act.now) self.old.function }
-        ensures answer { result.answer ≡ answer_at self.old.registers self.old.progress act.now }
-        ensures effect { result.effect ≡ effect_at self.old.registers self.old.progress act.now }
+        ensures answer { answer.new ≡ answer_at self.old.registers self.old.progress act.now }
+        ensures effect { result ≡ effect_at self.old.registers self.old.progress act.now }
     {
         match act {
-            Act::Reset => self.reset(),
+            Act::Reset => self.reset(answer),
             Act::Setup { address, setup } => {
                 if *address != self.registers.address {
-                    return silence();
+                    return silence(answer);
                 }
                 self.begin(setup);
-                Reaction {
-                    answer: Answer::Ack,
-                    effect: Effect::Nothing,
-                }
+                *answer = Answer::Ack;
+                Effect::Nothing
             }
             Act::Out {
                 address,
@@ -139,36 +156,32 @@ impl<F: Function> Pipe<F> {
                 ..
             } => {
                 if *address != self.registers.address {
-                    return silence();
+                    return silence(answer);
                 }
-                Reaction {
-                    answer: self.transfer.take_out(*toggle, bytes.as_slice()),
-                    effect: Effect::Nothing,
-                }
+                self.transfer.take_out(*toggle, bytes.as_slice(), answer);
+                Effect::Nothing
             }
             Act::In { address, acked, .. } => {
                 if *address != self.registers.address {
-                    return silence();
+                    return silence(answer);
                 }
-                self.take_in(tick, *acked)
+                self.take_in(tick, *acked, answer)
             }
         }
     }
 
     /// Takes a bus reset.
-    fn reset(&mut self) -> Reaction
+    fn reset(&mut self, answer: &mut Answer) -> Effect
         ensures registers { self.new.registers ≡ reset_registers }
         ensures progress { self.new.progress ≡ Refusing }
         ensures function { self.new.function ≡ self.old.function }
-        ensures answer { result.answer ≡ Answer.Silent }
-        ensures effect { result.effect ≡ Effect.Reset }
+        ensures answer { answer.new ≡ Answer.Silent }
+        ensures effect { result ≡ Effect.Reset }
     {
         self.registers = Registers::new();
         self.transfer.refuse();
-        Reaction {
-            answer: Answer::Silent,
-            effect: Effect::Reset,
-        }
+        *answer = Answer::Silent;
+        Effect::Reset
     }
 
     /// Takes up the request of a setup.
@@ -219,22 +232,22 @@ impl<F: Function> Pipe<F> {
     }
 
     /// Takes an IN at the device's address.
-    fn take_in(&mut self, tick: Tick, acked: bool) -> Reaction
+    fn take_in(&mut self, tick: Tick, acked: bool, answer: &mut Answer) -> Effect
         ensures progress { self.new.progress ≡ after_in acked self.old.progress }
         ensures registers { self.new.registers
             ≡ completed_registers (if acked then completion self.old.progress else None) self.old.registers }
         ensures function { self.new.function ≡ completed_function F.after_class tick
             (if acked then completion self.old.progress else None) self.old.function }
-        ensures answer { result.answer ≡ in_answer self.old.progress }
-        ensures effect { result.effect ≡ completed_effect (if acked then completion self.old.progress else None) }
+        ensures answer { answer.new ≡ in_answer self.old.progress }
+        ensures effect { result ≡ completed_effect (if acked then completion self.old.progress else None) }
     {
         let effect = if acked {
             self.complete(tick)
         } else {
             Effect::Nothing
         };
-        let answer = self.transfer.take_in(acked);
-        Reaction { answer, effect }
+        self.transfer.take_in(acked, answer);
+        effect
     }
 
     /// Carries out the request that an acknowledged IN completes, if it does.
@@ -253,14 +266,12 @@ impl<F: Function> Pipe<F> {
 }
 
 /// An act at another address isn't answered.
-fn silence() -> Reaction
-    ensures answer { result.answer ≡ Answer.Silent }
-    ensures effect { result.effect ≡ Effect.Nothing }
+fn silence(answer: &mut Answer) -> Effect
+    ensures answer { answer.new ≡ Answer.Silent }
+    ensures effect { result ≡ Effect.Nothing }
 {
-    Reaction {
-        answer: Answer::Silent,
-        effect: Effect::Nothing,
-    }
+    *answer = Answer::Silent;
+    Effect::Nothing
 }
 
 /// Carries out a completed request.

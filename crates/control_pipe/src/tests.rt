@@ -1,5 +1,6 @@
 //! Sessions at the control endpoint, with answers from the USB standard.
 ghost use Rattle.std.specs.Prelude.{◌≤◌, length};
+ghost use Rattle.psd_base.specs.declared.packet.TheConstants.{BLOCK_SIZE};
 
 use super::*;
 use psd_base::act::{Act, Answer};
@@ -38,7 +39,7 @@ struct Recorder {
     value: u16,
     told: Packet,
     told_at: Tick,
-    ghost short: { length descriptor.now ≤ 1024 },
+    ghost short: { length descriptor.now ≤ BLOCK_SIZE },
 }
 
 impl Function for Recorder {
@@ -52,7 +53,7 @@ impl Function for Recorder {
 
     ghost takes_class = { λ setup. setup.length == 3 };
 
-    ghost after_class = { λ device tick _ bytes. record device { told = bytes; told_at = tick } };
+    ghost after_class = { λ device tick setup bytes. if setup.length == 3 then record device { told = bytes; told_at = tick } else device };
 
     fn descriptor(&self, setup: &Setup) -> Option<&[u8]> {
         if setup.value == self.value {
@@ -70,21 +71,26 @@ impl Function for Recorder {
         setup.length == 3
     }
 
-    fn class_out(&mut self, tick: Tick, _setup: &Setup, bytes: &[u8]) {
-        self.told = Packet::from_slice(bytes);
-        self.told_at = tick;
+    fn class_out(&mut self, tick: Tick, setup: &Setup, bytes: &[u8]) {
+        if setup.length == 3 {
+            self.told = Packet::from_slice(bytes);
+            self.told_at = tick;
+        }
     }
 
-    ghost short_descriptor = { λ device setup. cond_both (setup.value == device.value) (Some device.descriptor.now) None (λ found. IfSome found (λ bytes. length bytes ≤ 1024)) (λ _. device.short) (λ _. tt) };
+    ghost short_descriptor = { λ device setup. cond_both (setup.value == device.value) (Some device.descriptor.now) None (λ found. IfSome found (λ bytes. length bytes ≤ BLOCK_SIZE)) (λ _. device.short) (λ _. tt) };
 
     ghost short_class = { λ setup taken. omega (arith, eqb-true setup.length 3 taken) };
 
-    ghost keeps_descriptors = { λ _ _ _ _ _. refl };
+    ghost refuses_class = { λ _ _ _ _ refused. rw refused refl };
+
+    ghost keeps_descriptors = { λ device tick setup bytes other. cond_both (setup.length == 3) (record device { told = bytes; told_at = tick }) device
+        (λ after. (if other.value == after.value then Some after.descriptor.now else None) ≡ (if other.value == device.value then Some device.descriptor.now else None)) (λ _. refl) (λ _. refl) };
 }
 
 /// A device in its default state, with this descriptor at this value.
 fn new_device(descriptor: &'static [u8], value: u16) -> Pipe<Recorder>
-    requires { length descriptor.now ≤ 1024 }
+    requires { length descriptor.now ≤ BLOCK_SIZE }
 {
     Pipe::new(Recorder {
         descriptor,

@@ -105,14 +105,15 @@ impl Transfer {
         }
     }
 
-    /// Takes an IN, and gives what it is answered.
-    pub(crate) fn take_in(&mut self, acked: bool) -> Answer
-        ensures answer { result ≡ in_answer self.old }
+    /// Takes an IN, and writes what it is answered.
+    pub(crate) fn take_in(&mut self, acked: bool, answer: &mut Answer)
+        ensures answer { answer.new ≡ in_answer self.old }
         ensures after { self.new ≡ after_in acked self.old }
     {
         match self.stage {
-            Stage::Refusing => Answer::Stall,
+            Stage::Refusing => *answer = Answer::Stall,
             Stage::DataIn { sent, count } => {
+                data_packet(self.bytes.as_slice(), sent, answer);
                 if acked {
                     self.stage = if 1 + sent < count {
                         Stage::DataIn {
@@ -123,17 +124,16 @@ impl Transfer {
                         Stage::StatusOut
                     };
                 }
-                data_packet(self.bytes.as_slice(), sent)
             }
-            Stage::StatusOut => self.stall(),
+            Stage::StatusOut => self.stall(answer),
             Stage::DataOut { .. } => {
                 if self.bytes.len() == self.setup.length as usize {
-                    self.end(acked)
+                    self.end(acked, answer);
                 } else {
-                    self.stall()
+                    self.stall(answer);
                 }
             }
-            Stage::StatusIn => self.end(acked),
+            Stage::StatusIn => self.end(acked, answer),
         }
     }
 
@@ -164,67 +164,68 @@ impl Transfer {
         }
     }
 
-    /// Takes an OUT, and gives what it is answered.
-    pub(crate) fn take_out(&mut self, toggle: bool, packet: &[u8]) -> Answer
-        ensures answer { result ≡ out_answer toggle packet.now self.old }
+    /// Takes an OUT, and writes what it is answered.
+    pub(crate) fn take_out(&mut self, toggle: bool, packet: &[u8], answer: &mut Answer)
+        ensures answer { answer.new ≡ out_answer toggle packet.now self.old }
         ensures after { self.new ≡ after_out toggle packet.now self.old }
     {
         match self.stage {
-            Stage::Refusing => self.stall(),
-            Stage::DataIn { .. } => self.take_status(toggle, packet),
-            Stage::StatusOut => self.take_status(toggle, packet),
+            Stage::Refusing => self.stall(answer),
+            Stage::DataIn { .. } => self.take_status(toggle, packet, answer),
+            Stage::StatusOut => self.take_status(toggle, packet, answer),
             Stage::DataOut { toggle: next } => {
                 if toggle != next {
-                    return Answer::Ack;
+                    *answer = Answer::Ack;
+                    return;
                 }
                 let count = self.bytes.len();
                 let asked = self.setup.length as usize;
                 if count < asked && count + packet.len() <= asked {
                     let _ = self.bytes.try_extend_from_slice(packet);
                     self.stage = Stage::DataOut { toggle: !toggle };
-                    Answer::Ack
+                    *answer = Answer::Ack;
                 } else {
-                    self.stall()
+                    self.stall(answer);
                 }
             }
-            Stage::StatusIn => self.stall(),
+            Stage::StatusIn => self.stall(answer),
         }
     }
 
     /// Takes an OUT that can only be the status stage.
-    fn take_status(&mut self, toggle: bool, packet: &[u8]) -> Answer
-        ensures answer { result ≡ (if is_status_out toggle packet.now then Answer.Ack else Answer.Stall) }
+    fn take_status(&mut self, toggle: bool, packet: &[u8], answer: &mut Answer)
+        ensures answer { answer.new ≡ (if is_status_out toggle packet.now then Answer.Ack else Answer.Stall) }
         ensures after { self.new ≡ (if is_status_out toggle packet.now then StatusOut else Refusing) }
     {
         if toggle && packet.is_empty() {
             self.stage = Stage::StatusOut;
-            Answer::Ack
+            *answer = Answer::Ack;
         } else {
-            self.stall()
+            self.stall(answer);
         }
     }
 
     /// Refuses an act that doesn't fit, and all later ones.
-    fn stall(&mut self) -> Answer
-        ensures answer { result ≡ Answer.Stall }
+    fn stall(&mut self, answer: &mut Answer)
+        ensures answer { answer.new ≡ Answer.Stall }
         ensures after { self.new ≡ Refusing }
     {
         self.stage = Stage::Refusing;
-        Answer::Stall
+        *answer = Answer::Stall;
     }
 
-    /// Gives the empty packet of the status stage.
-    fn end(&mut self, acked: bool) -> Answer
-        ensures answer { result ≡ Answer.Data true [] }
+    /// Writes the empty packet of the status stage.
+    fn end(&mut self, acked: bool, answer: &mut Answer)
+        ensures answer { answer.new ≡ Answer.Data true [] }
         ensures after { self.new ≡ (if acked then Refusing else self.old) }
     {
         if acked {
             self.stage = Stage::Refusing;
         }
-        Answer::Data {
+        *answer = Answer::Data {
             toggle: true,
             bytes: Packet::new(),
-        }
+        };
     }
 }
 
@@ -262,14 +263,17 @@ fn packet_count(count: usize, asked: u16) -> usize
     }
 }
 
-/// The packet of this number, counted from 0, as an answer.
-fn data_packet(bytes: &[u8], number: usize) -> Answer
+/// Writes the packet of this number, counted from 0, as an answer.
+fn data_packet(bytes: &[u8], number: usize, answer: &mut Answer)
     requires { number * PACKET_SIZE ≤ length bytes.now }
-    ensures { result ≡ Answer.Data (number % 2 == 0) (take PACKET_SIZE (drop (number * PACKET_SIZE) bytes.now)) }
+    ensures { answer.new ≡ Answer.Data (number % 2 == 0) (take PACKET_SIZE (drop (number * PACKET_SIZE) bytes.now)) }
 {
     let rest = &bytes[number * PACKET_SIZE..];
-    Answer::Data {
+    *answer = Answer::Data {
         toggle: number % 2 == 0,
-        bytes: Packet::from_slice(cut_to(rest, PACKET_SIZE as u16)),
+        bytes: Packet::new(),
+    };
+    if let Answer::Data { bytes, .. } = answer {
+        bytes.append(cut_to(rest, PACKET_SIZE as u16));
     }
 }

@@ -1,9 +1,10 @@
 -- Outlets that grew by a text, or by a part of it.
-use Rattle.std.proofs.Common.{◌≡◌, ℕ, ◌+◌, ◌≤◌, List, [], ◌++◌, length, take, min, Option, Some, None, refl, sym, ap, ◌∙◌, append_assoc, arith}
+use Rattle.std.proofs.Common.{◌≡◌, ℕ, ◌+◌, ◌≤◌, List, [], ◌++◌, length, take, min, Option, Some, None, Result, Ok, Err, refl, sym, ap, ◌∙◌, append_assoc, arith}
 use Rattle.std.proofs.lemmas.List.{take-append-le, take_min, append-nil}
 use Rattle.std.proofs.Math.Seq.{take-append-add, take-append_seam, take-length}
 use Rattle.psd_base.specs.Desk.{IsAppendedPart}
-use Rattle.kvm_program.specs.Outlets.{Grew}
+use Rattle.psd_base.specs.declared.stop.Stop.{Stop}
+use Rattle.kvm_program.specs.Outlets.{Grew, Wrote}
 
 -- no text leaves an outlet as it was
 pub Grew-nothing : (before after : Option (List ℕ)) → after ≡ before → Grew before after []
@@ -40,3 +41,13 @@ pub Grew-whole : (before after : Option (List ℕ)) (text : List ℕ) → Grew b
 Grew-whole before after text one = (length text, rw take_whole one) where
   take_whole : take (length text) text ≡ text
   take_whole = take-length text
+
+-- a text that was written before what was written last
+pub Wrote-before : (result : Result (Unit {0}) Stop) (before mid after : Option (List ℕ)) (text : List ℕ) → Grew before mid text → after ≡ mid → Wrote result before after text
+Wrote-before (Ok done) before mid after text wrote same = same ∙ wrote
+Wrote-before (Err why) before mid after text wrote same = Grew-whole before after text (same ∙ wrote)
+
+-- an outlet that stays as it is
+pub Wrote-nothing : (result : Result (Unit {0}) Stop) (before after : Option (List ℕ)) → after ≡ before → Wrote result before after []
+Wrote-nothing (Ok done) before after same = Grew-nothing before after same
+Wrote-nothing (Err why) before after same = Grew-whole before after [] (Grew-nothing before after same)

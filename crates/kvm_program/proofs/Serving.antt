@@ -1,27 +1,26 @@
 -- A replay that goes on, ends or stops.
-use Rattle.std.proofs.Common.{◌≡◌, ℕ, ◌+◌, ◌≤◌, inl, inr, List, [], ◌∷◌, ◌++◌, length, Option, Some, None, option_map, IfSome, refl, sym, ap, ◌∙◌, subst, length-append, arith}
+use Rattle.std.proofs.Common.{◌≡◌, ℕ, ◌+◌, ◌≤◌, inl, inr, List, [], ◌∷◌, ◌++◌, length, Option, Some, None, option_map, IfSome, refl, sym, ap, ◌∙◌, subst, arith}
 use Rattle.psd_base.specs.Desk.{IsAppendedPart, Rose}
 use Rattle.psd_base.specs.declared.outlet.Input.{Input}
 use Rattle.psd_base.specs.Event.{Seen}
 use Rattle.psd_base.specs.History.{onto}
-use Rattle.psd_base.specs.Port.{IsPort}
 use Rattle.psd_base.specs.declared.outlet.Outlet.{Outlet}
 use Rattle.psd_base.specs.declared.outlet.Outlet.TheVariants as outlet
+use Rattle.psd_base.specs.declared.stop.RulesFault.{RulesFault}
 use Rattle.psd_base.specs.declared.stop.Stop.{Stop}
 use Rattle.psd_base.specs.declared.stop.Stop.TheVariants.{Usage, Rules, Capture, Script, TooLong, ReadFault, WriteFault, OutOfMemory}
 use Rattle.psd_base.specs.declared.outlet.Input.TheVariants as input
 use Rattle.capture_reader.specs.Reader.{Reading, StopsBecause}
 use Rattle.capture_reader.specs.Schedule.{Schedule, in_front, over}
-use Rattle.switch_core.specs.StandsFor.{StandsFor, line_at}
+use Rattle.switch_core.specs.StandsFor.{StandsFor}
 use Rattle.switch_core.specs.declared.switch.Switch.{Switch}
 use Rattle.kvm_program.specs.declared.tally.Tally.{Tally}
-use Rattle.kvm_program.specs.Tally.{bytes_at}
 use Rattle.kvm_program.specs.Outlets.{Grew}
-use Rattle.kvm_program.specs.Transcript.{transcript_after, transcript_of, text_at}
-use Rattle.kvm_program.specs.Progress.{Progress, Finished, IsFresh, Whole, whole_of, WroteAtStop, ServingStops}
+use Rattle.kvm_program.specs.Texts.{text_after, text_of, step_text}
+use Rattle.kvm_program.specs.Progress.{Counts, Progress, Finished, IsFresh, Whole, whole_of, WroteAtStop, ServingStops}
 use Rattle.kvm_program.specs.Replay.{RunStops}
 use Rattle.kvm_program.proofs.Parts.{Grew-nothing, Grew-more, Grew-part, Grew-prefix}
-use Rattle.kvm_program.proofs.Transcripts.{transcript_after-step, transcript_after-onto}
+use Rattle.kvm_program.proofs.Texts.{text_after-step, text_after-onto}
 
 -- an event that comes is the newest of what was served
 whole_of-in_front : (past : List Seen) (event : Seen) (later : Option Schedule)
@@ -39,8 +38,8 @@ pub Progress-more : (coming now later : Option Schedule) (sent sent_now sent_lat
     (so_far : Progress coming now sent sent_now switch tally)
     → now ≡ option_map (in_front event) later
     → StandsFor switch_later (event ∷ so_far.past)
-    → ((port : ℕ) → Grew (sent_now (outlet.Port port)) (sent_later (outlet.Port port)) (text_at port (line_at event so_far.past)))
-    → ((port : ℕ) → IsPort port → bytes_at tally_later port ≡ bytes_at tally port + length (text_at port (line_at event so_far.past)))
+    → ((to : Outlet) → Grew (sent_now to) (sent_later to) (step_text to event so_far.past))
+    → Counts tally_later (event ∷ so_far.past)
     → switch_later.served ≡ switch.served + 1
     → Progress coming later sent sent_later switch_later tally_later
 Progress-more coming now later sent sent_now sent_later switch switch_later tally tally_later event so_far next stands wrote counted served =
@@ -49,10 +48,9 @@ Progress-more coming now later sent sent_now sent_later switch switch_later tall
       past = event ∷ past;
       stands = stands;
       whole = whole_of-step coming now later past event next so_far.whole;
-      written = λ port. rw (transcript_after-step port event past)
-          (Grew-more (sent (outlet.Port port)) (sent_now (outlet.Port port)) (sent_later (outlet.Port port)) _ _ (so_far.written port) (wrote port));
-      counted = λ port is. rw (transcript_after-step port event past)
-          (omega (arith, counted port is, so_far.counted port is, length-append (transcript_after port past) (text_at port (line_at event past))));
+      written = λ to. subst (λ (text : List ℕ). Grew (sent to) (sent_later to) text) (sym (text_after-step to event past))
+          (Grew-more (sent to) (sent_now to) (sent_later to) _ _ (so_far.written to) (wrote to));
+      counted = counted;
       served = let one : length (event ∷ past) ≡ length past + 1 = omega arith in one ∙ (ap (λ (n : ℕ). n + 1) so_far.served ∙ sym served);
     }
 
@@ -82,66 +80,69 @@ Progress-over schedule now sent sent_now switch tally stop so_far over_now = by_
   )
 
 -- what was written so far is a part of all that was to be written
-pub Progress-part : (schedule : Schedule) (now : Option Schedule) (sent sent_now : Outlet → Option (List ℕ)) (switch : Switch) (tally : Tally) (port : ℕ)
+pub Progress-part : (schedule : Schedule) (now : Option Schedule) (sent sent_now : Outlet → Option (List ℕ)) (switch : Switch) (tally : Tally) (to : Outlet)
     → Progress (Some schedule) now sent sent_now switch tally
-    → IsAppendedPart (sent (outlet.Port port)) (sent_now (outlet.Port port)) (transcript_of port schedule.events)
-Progress-part schedule now sent sent_now switch tally port so_far = by_now now so_far.whole where
+    → IsAppendedPart (sent to) (sent_now to) (text_of to schedule.events)
+Progress-part schedule now sent sent_now switch tally to so_far = by_now now so_far.whole where
   by_now : (now : Option Schedule) → option_map (whole_of []) (Some schedule) ≡ option_map (whole_of so_far.past) now
-      → IsAppendedPart (sent (outlet.Port port)) (sent_now (outlet.Port port)) (transcript_of port schedule.events)
+      → IsAppendedPart (sent to) (sent_now to) (text_of to schedule.events)
   by_now None whole = absurd (cc)
   by_now (Some left) whole =
-      let more = transcript_after-onto port left.events so_far.past in
-      let all = ap (transcript_after port) (history_is schedule (Some left) so_far.past left whole refl) ∙ more.1 in
-      subst (λ (text : List ℕ). IsAppendedPart (sent (outlet.Port port)) (sent_now (outlet.Port port)) text) (sym all) (Grew-prefix _ _ _ more.0 (so_far.written port))
+      let more = text_after-onto to left.events so_far.past in
+      let all = ap (text_after to) (history_is schedule (Some left) so_far.past left whole refl) ∙ more.1 in
+      subst (λ (text : List ℕ). IsAppendedPart (sent to) (sent_now to) text) (sym all) (Grew-prefix _ _ _ more.0 (so_far.written to))
 
--- the same where the line of the next event was written in part
-pub Progress-broken : (schedule : Schedule) (now later : Option Schedule) (sent sent_now sent_later : Outlet → Option (List ℕ)) (switch : Switch) (tally : Tally) (event : Seen) (port : ℕ)
+-- the same where what the next event gave was written in part
+pub Progress-broken : (schedule : Schedule) (now later : Option Schedule) (sent sent_now sent_later : Outlet → Option (List ℕ)) (switch : Switch) (tally : Tally) (event : Seen) (to : Outlet)
     (so_far : Progress (Some schedule) now sent sent_now switch tally)
     → now ≡ option_map (in_front event) later
-    → IsAppendedPart (sent_now (outlet.Port port)) (sent_later (outlet.Port port)) (text_at port (line_at event so_far.past))
-    → IsAppendedPart (sent (outlet.Port port)) (sent_later (outlet.Port port)) (transcript_of port schedule.events)
-Progress-broken schedule now later sent sent_now sent_later switch tally event port so_far next part = by_later later (whole_of-step (Some schedule) now later so_far.past event next so_far.whole) where
+    → IsAppendedPart (sent_now to) (sent_later to) (step_text to event so_far.past)
+    → IsAppendedPart (sent to) (sent_later to) (text_of to schedule.events)
+Progress-broken schedule now later sent sent_now sent_later switch tally event to so_far next part = by_later later (whole_of-step (Some schedule) now later so_far.past event next so_far.whole) where
   by_later : (later : Option Schedule) → option_map (whole_of []) (Some schedule) ≡ option_map (whole_of (event ∷ so_far.past)) later
-      → IsAppendedPart (sent (outlet.Port port)) (sent_later (outlet.Port port)) (transcript_of port schedule.events)
+      → IsAppendedPart (sent to) (sent_later to) (text_of to schedule.events)
   by_later None whole = absurd (cc)
   by_later (Some left) whole =
       let past = so_far.past in
-      let more = transcript_after-onto port left.events (event ∷ past) in
-      let all = ap (transcript_after port) (history_is schedule (Some left) (event ∷ past) left whole refl) ∙ (more.1 ∙ ap (λ (text : List ℕ). text ++ more.0) (transcript_after-step port event past)) in
-      subst (λ (text : List ℕ). IsAppendedPart (sent (outlet.Port port)) (sent_later (outlet.Port port)) text) (sym all)
-      (Grew-part _ _ _ (transcript_after port past) (text_at port (line_at event past)) more.0 (so_far.written port) part)
+      let more = text_after-onto to left.events (event ∷ past) in
+      let all = ap (text_after to) (history_is schedule (Some left) (event ∷ past) left whole refl) ∙ (more.1 ∙ ap (λ (text : List ℕ). text ++ more.0) (text_after-step to event past)) in
+      subst (λ (text : List ℕ). IsAppendedPart (sent to) (sent_later to) text) (sym all)
+      (Grew-part _ _ _ (text_after to past) (step_text to event past) more.0 (so_far.written to) part)
 
--- what a port got, where the reader stops
-pub WroteAtStop-advance : (stop : Stop) (reader : Reading) (schedule : Schedule) (now : Option Schedule) (sent sent_now sent_after : Outlet → Option (List ℕ)) (switch : Switch) (tally : Tally) (reads reads_after port : ℕ)
+-- what an outlet got, where the reader stops
+pub WroteAtStop-advance : (stop : Stop) (reader : Reading) (schedule : Schedule) (now : Option Schedule) (sent sent_now sent_after : Outlet → Option (List ℕ)) (switch : Switch) (tally : Tally) (reads reads_after : Input → ℕ) (to : Outlet)
     → Progress (Some schedule) now sent sent_now switch tally
-    → sent_after (outlet.Port port) ≡ sent_now (outlet.Port port)
+    → sent_after to ≡ sent_now to
     → StopsBecause reader now reads reads_after stop
-    → WroteAtStop stop (transcript_of port schedule.events) (sent (outlet.Port port)) (sent_after (outlet.Port port))
-WroteAtStop-advance stop reader schedule now sent sent_now sent_after switch tally reads reads_after port so_far same because = by_stop stop because where
-  all : (end : Option Stop) → IfSome now (λ left. left ≡ over end) → Grew (sent (outlet.Port port)) (sent_after (outlet.Port port)) (transcript_of port schedule.events)
+    → WroteAtStop stop (text_of to schedule.events) (sent to) (sent_after to)
+WroteAtStop-advance stop reader schedule now sent sent_now sent_after switch tally reads reads_after to so_far same because = by_stop stop because where
+  all : (end : Option Stop) → IfSome now (λ left. left ≡ over end) → Grew (sent to) (sent_after to) (text_of to schedule.events)
   all end is =
       let over_now = Progress-over schedule now sent sent_now switch tally end so_far is in
-      rw same (subst (λ (past : List Seen). Grew (sent (outlet.Port port)) (sent_now (outlet.Port port)) (transcript_after port past)) (sym over_now.1) (so_far.written port))
+      rw same (subst (λ (past : List Seen). Grew (sent to) (sent_now to) (text_after to past)) (sym over_now.1) (so_far.written to))
 
-  by_input : (which : Input) → StopsBecause reader now reads reads_after (ReadFault which) → IsAppendedPart (sent (outlet.Port port)) (sent_after (outlet.Port port)) (transcript_of port schedule.events)
-  by_input input.Capture is = rw same (Progress-part schedule now sent sent_now switch tally port so_far)
+  part : IsAppendedPart (sent to) (sent_after to) (text_of to schedule.events)
+  part = rw same (Progress-part schedule now sent sent_now switch tally to so_far)
+
+  by_input : (which : Input) → StopsBecause reader now reads reads_after (ReadFault which) → WroteAtStop (ReadFault which) (text_of to schedule.events) (sent to) (sent_after to)
+  by_input input.Capture is = part
+  by_input input.Script is = part
   by_input input.Rules is = absurd is
-  by_input input.Script is = absurd is
 
-  by_stop : (stop : Stop) → StopsBecause reader now reads reads_after stop → WroteAtStop stop (transcript_of port schedule.events) (sent (outlet.Port port)) (sent_after (outlet.Port port))
+  by_stop : (stop : Stop) → StopsBecause reader now reads reads_after stop → WroteAtStop stop (text_of to schedule.events) (sent to) (sent_after to)
   by_stop (Capture offset why) is = all (Some (Capture offset why)) is.1
+  by_stop (Script line why) is = all (Some (Script line why)) is.1
   by_stop TooLong is = all (Some TooLong) is.1
   by_stop (ReadFault which) is = by_input which is
   by_stop Usage is = absurd is
   by_stop (Rules why) is = absurd is
-  by_stop (Script line why) is = absurd is
-  by_stop (WriteFault to) is = absurd is
+  by_stop (WriteFault place) is = absurd is
   by_stop OutOfMemory is = absurd is
 
 -- why the reader stops is why serving stops
 pub ServingStops-advance : (stop : Stop) (reader : Reading) (coming now : Option Schedule) (sent sent_now : Outlet → Option (List ℕ)) (switch : Switch) (tally : Tally) (reads reads_after : Input → ℕ) (writes writes_after : Outlet → ℕ)
     → Progress coming now sent sent_now switch tally
-    → StopsBecause reader now (reads input.Capture) (reads_after input.Capture) stop
+    → StopsBecause reader now reads reads_after stop
     → ServingStops stop coming reads reads_after writes writes_after
 ServingStops-advance stop reader coming now sent sent_now switch tally reads reads_after writes writes_after so_far because = by_stop stop because where
   ends : (end : Option Stop) → IfSome now (λ left. left ≡ over end) → IfSome coming (λ schedule. schedule.stop ≡ end)
@@ -150,19 +151,19 @@ ServingStops-advance stop reader coming now sent sent_now switch tally reads rea
     by_coming None progress = tt
     by_coming (Some schedule) progress = (Progress-over schedule now sent sent_now switch tally end progress is).0
 
-  by_input : (which : Input) → StopsBecause reader now (reads input.Capture) (reads_after input.Capture) (ReadFault which) → ServingStops (ReadFault which) coming reads reads_after writes writes_after
-  by_input input.Capture is = (refl, is.0)
+  by_input : (which : Input) → StopsBecause reader now reads reads_after (ReadFault which) → ServingStops (ReadFault which) coming reads reads_after writes writes_after
+  by_input input.Capture is = ((λ e. absurd (cc)), is.0)
+  by_input input.Script is = ((λ e. absurd (cc)), is.0)
   by_input input.Rules is = absurd is
-  by_input input.Script is = absurd is
 
-  by_stop : (stop : Stop) → StopsBecause reader now (reads input.Capture) (reads_after input.Capture) stop → ServingStops stop coming reads reads_after writes writes_after
+  by_stop : (stop : Stop) → StopsBecause reader now reads reads_after stop → ServingStops stop coming reads reads_after writes writes_after
   by_stop (Capture offset why) is = ends (Some (Capture offset why)) is.1
+  by_stop (Script line why) is = ends (Some (Script line why)) is.1
   by_stop TooLong is = ends (Some TooLong) is.1
   by_stop (ReadFault which) is = by_input which is
   by_stop Usage is = absurd is
   by_stop (Rules why) is = absurd is
-  by_stop (Script line why) is = absurd is
-  by_stop (WriteFault to) is = absurd is
+  by_stop (WriteFault place) is = absurd is
   by_stop OutOfMemory is = absurd is
 
 -- a count that rose later rose from the start
@@ -179,8 +180,8 @@ ServingStops-earlier TooLong coming first_reads reads reads_after first_writes w
 ServingStops-earlier (ReadFault which) coming first_reads reads reads_after first_writes writes writes_after reads_grow writes_grow is =
     (is.0, Rose-earlier (first_reads which) (reads which) (reads_after which) (reads_grow which) is.1)
 ServingStops-earlier (WriteFault to) coming first_reads reads reads_after first_writes writes writes_after reads_grow writes_grow is =
-    (is.0, Rose-earlier (first_writes to) (writes to) (writes_after to) (writes_grow to) is.1)
-ServingStops-earlier (Script line why) coming first_reads reads reads_after first_writes writes writes_after reads_grow writes_grow is = absurd is
+    (is.0, is.1, Rose-earlier (first_writes to) (writes to) (writes_after to) (writes_grow to) is.2)
+ServingStops-earlier (Script line why) coming first_reads reads reads_after first_writes writes writes_after reads_grow writes_grow is = is
 ServingStops-earlier Usage coming first_reads reads reads_after first_writes writes writes_after reads_grow writes_grow is = absurd is
 ServingStops-earlier (Rules why) coming first_reads reads reads_after first_writes writes writes_after reads_grow writes_grow is = absurd is
 ServingStops-earlier OutOfMemory coming first_reads reads reads_after first_writes writes writes_after reads_grow writes_grow is = absurd is
@@ -197,39 +198,45 @@ pub Finished-over : (schedule : Schedule) (now : Option Schedule) (sent sent_now
     → Finished schedule sent sent_after switch_after tally_after
 Finished-over schedule now sent sent_now sent_after switch switch_after tally tally_after so_far is same same_switch same_tally =
     let end = Progress-over schedule now sent sent_now switch tally None so_far is in
-    let all : (port : ℕ) → transcript_of port schedule.events ≡ transcript_after port so_far.past = λ port. ap (transcript_after port) end.1 in
     record {
       whole = end.0;
-      written = λ port. rw (all port, same (outlet.Port port)) (so_far.written port);
-      counted = λ port is. rw (all port, same_tally) (so_far.counted port is);
+      written = λ to. rw same (subst (λ (past : List Seen). Grew (sent to) (sent_now to) (text_after to past)) (sym end.1) (so_far.written to));
+      counted = subst (λ (past : List Seen). Counts tally_after past) (sym end.1) (subst (λ (t : Tally). Counts t so_far.past) (sym same_tally) so_far.counted);
       served = let nothing : length schedule.events ≡ length so_far.past = omega (arith, length-onto schedule.events [], ap length end.1) in
           rw same_switch (sym so_far.served ∙ sym nothing);
     }
 
 -- a replay that begins
 pub Progress-start : (coming now : Option Schedule) (sent sent_now : Outlet → Option (List ℕ)) (reader : Reading) (switch : Switch) (tally : Tally)
-    → IsFresh reader switch tally → now ≡ coming → ((port : ℕ) → sent_now (outlet.Port port) ≡ sent (outlet.Port port))
+    → IsFresh reader switch tally → now ≡ coming → ((to : Outlet) → sent_now to ≡ sent to)
     → Progress coming now sent sent_now switch tally
 Progress-start coming now sent sent_now reader switch tally fresh same unsent = record {
   past = [];
   stands = fresh.stands;
   whole = ap (option_map (whole_of [])) (sym same);
-  written = λ port. Grew-nothing (sent (outlet.Port port)) (sent_now (outlet.Port port)) (unsent port);
-  counted = λ port is. fresh.empty port is;
+  written = λ to. Grew-empty to (Grew-nothing (sent to) (sent_now to) (unsent to));
+  counted = fresh.empty;
   served = sym fresh.unserved;
-}
+} where
+  -- no event writes nothing
+  Grew-empty : (to : Outlet) → Grew (sent to) (sent_now to) [] → Grew (sent to) (sent_now to) (text_after to [])
+  Grew-empty (outlet.Port port) is = is
+  Grew-empty outlet.Log is = is
+  Grew-empty outlet.Report is = is
+  Grew-empty outlet.Faults is = is
+  Grew-empty outlet.Console is = is
 
 -- why serving stops is why a run stops
-pub RunStops-serving : (stop : Stop) (unknown unread : Type 0) (coming : Option Schedule) (first_reads reads reads_after : Input → ℕ) (first_writes writes writes_after : Outlet → ℕ)
+pub RunStops-serving : (stop : Stop) (refused : RulesFault → Type 0) (unread : Type 0) (coming : Option Schedule) (first_reads reads reads_after : Input → ℕ) (first_writes writes writes_after : Outlet → ℕ)
     → ((input : Input) → first_reads input ≤ reads input) → ((to : Outlet) → first_writes to ≤ writes to)
-    → ServingStops stop coming reads reads_after writes writes_after → RunStops stop unknown unread coming first_reads reads_after first_writes writes_after
-RunStops-serving stop unknown unread coming first_reads reads reads_after first_writes writes writes_after reads_grow writes_grow is = by_stop stop is where
-  by_stop : (stop : Stop) → ServingStops stop coming reads reads_after writes writes_after → RunStops stop unknown unread coming first_reads reads_after first_writes writes_after
+    → ServingStops stop coming reads reads_after writes writes_after → RunStops stop refused unread coming first_reads reads_after first_writes writes_after
+RunStops-serving stop refused unread coming first_reads reads reads_after first_writes writes writes_after reads_grow writes_grow is = by_stop stop is where
+  by_stop : (stop : Stop) → ServingStops stop coming reads reads_after writes writes_after → RunStops stop refused unread coming first_reads reads_after first_writes writes_after
   by_stop (Capture offset why) is = is
+  by_stop (Script line why) is = is
   by_stop TooLong is = is
-  by_stop (ReadFault which) is = (is.0, Rose-earlier (first_reads which) (reads which) (reads_after which) (reads_grow which) is.1)
-  by_stop (WriteFault to) is = (λ e. absurd (cc (e, is.0.1)), Rose-earlier (first_writes to) (writes to) (writes_after to) (writes_grow to) is.1)
-  by_stop (Script line why) is = absurd is
+  by_stop (ReadFault which) is = Rose-earlier (first_reads which) (reads which) (reads_after which) (reads_grow which) is.1
+  by_stop (WriteFault to) is = (is.0, Rose-earlier (first_writes to) (writes to) (writes_after to) (writes_grow to) is.2)
   by_stop Usage is = absurd is
   by_stop (Rules why) is = absurd is
   by_stop OutOfMemory is = absurd is

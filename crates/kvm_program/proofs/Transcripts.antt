@@ -1,17 +1,17 @@
 -- Transcripts as events come.
-use Rattle.std.proofs.Common.{◌≡◌, ℕ, List, [], ◌∷◌, ◌++◌, sym, ap, ◌∙◌, append_assoc, inl, inr}
+use Rattle.std.proofs.Common.{◌≡◌, ℕ, List, [], ◌∷◌, ◌++◌, sym, ap, ◌∙◌, inl, inr}
 use Rattle.std.proofs.lemmas.Bool.Decides.{eqb_tells}
 use Rattle.std.proofs.lemmas.Grind.{flat_map-append}
 use Rattle.std.proofs.lemmas.List.{append-nil}
 use Rattle.psd_base.specs.declared.act.Act.{Act}
 use Rattle.psd_base.specs.declared.act.Side.{Side}
 use Rattle.psd_base.specs.declared.line.Line.{Line}
-use Rattle.psd_base.specs.History.{onto}
-use Rattle.psd_base.specs.Event.{Seen, Happening, TimePasses, PortActs}
+use Rattle.psd_base.specs.Event.{Seen, Happening, TimePasses, PortActs, PanelMoves}
 use Rattle.port_transcript.specs.PortLine.{line_text}
 use Rattle.switch_core.specs.View.{view}
 use Rattle.switch_core.specs.OnePort.{toy, line_of}
 use Rattle.switch_core.specs.StandsFor.{line_at}
+use Rattle.switch_core.proofs.Views.{toy-clock, toy-move}
 use Rattle.kvm_program.specs.Transcript.{lines_text, transcript_after, text_at}
 
 -- the text of one line more
@@ -35,16 +35,8 @@ transcript_after-step port event past = by_happening event.tick event.happening 
   by_happening : (tick : ℕ) (happening : Happening)
       → transcript_after port (record { tick = tick; happening = happening } ∷ past)
       ≡ transcript_after port past ++ text_at port (line_at (record { tick = tick; happening = happening }) past)
-  by_happening tick TimePasses = sym (append-nil (transcript_after port past))
+  by_happening tick TimePasses =
+      ap lines_text (toy-clock port tick past) ∙ sym (append-nil (transcript_after port past))
   by_happening tick (PortActs own side act) = step_of_act port tick own side act past
-
--- what is written stays, whatever comes
-pub transcript_after-onto : (port : ℕ) (events : List Seen) (past : List Seen)
-    → (more : List ℕ) × (transcript_after port (onto events past) ≡ transcript_after port past ++ more)
-transcript_after-onto port [] past = ([], sym (append-nil (transcript_after port past)))
-transcript_after-onto port (event ∷ events) past =
-    let later = transcript_after-onto port events (event ∷ past) in
-    let here = text_at port (line_at event past) in (
-      here ++ later.0,
-      later.1 ∙ (ap (λ (text : List ℕ). text ++ later.0) (transcript_after-step port event past) ∙ append_assoc (transcript_after port past) here later.0),
-    )
+  by_happening tick (PanelMoves move) =
+      ap lines_text (toy-move port tick move past) ∙ sym (append-nil (transcript_after port past))

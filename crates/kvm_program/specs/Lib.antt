@@ -1,7 +1,12 @@
+pub mod Check
 pub mod Command
+pub mod Log
 pub mod Outlets
 pub mod Progress
 pub mod Replay
 pub mod Report
+pub mod Rules
+pub mod Run
 pub mod Tally
+pub mod Texts
 pub mod Transcript

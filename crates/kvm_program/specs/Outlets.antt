@@ -24,17 +24,16 @@ pub record OnlyWrites (to : Outlet) (left left_after : Input → Option (List �
   pub read_counts : (input : Input) → read_faults input ≤ read_faults_after input
   pub write_counts : (other : Outlet) → write_faults other ≤ write_faults_after other
 
--- nothing is written but to ports
-pub record OnlyWritesPorts (left left_after : Input → Option (List ℕ)) (sent sent_after : Outlet → Option (List ℕ))
+-- nothing is written but to the ports and the log
+pub record OnlyWritesTexts (left left_after : Input → Option (List ℕ)) (sent sent_after : Outlet → Option (List ℕ))
     (read_faults read_faults_after : Input → ℕ) (write_faults write_faults_after : Outlet → ℕ) : Type 0 where
   pub report : sent_after outlet.Report ≡ sent outlet.Report
   pub faults : sent_after outlet.Faults ≡ sent outlet.Faults
   pub console : sent_after outlet.Console ≡ sent outlet.Console
-  pub log : sent_after outlet.Log ≡ sent outlet.Log
   pub inputs : (input : Input) → left_after input ≡ left input
   pub read_counts : (input : Input) → read_faults input ≤ read_faults_after input
   pub write_counts : (other : Outlet) → write_faults other ≤ write_faults_after other
 
--- the stop is a write fault at a port whose count rose
-abbrev pub IsPortFault : (Outlet → ℕ) → (Outlet → ℕ) → Stop → Type 0
-IsPortFault before after why = (port : ℕ) × (why ≡ stop.WriteFault (outlet.Port port)) × Rose (before (outlet.Port port)) (after (outlet.Port port))
+-- the stop is a write fault at the console, the log or a port, whose count rose
+abbrev pub IsTextFault : (Outlet → ℕ) → (Outlet → ℕ) → Stop → Type 0
+IsTextFault before after why = (to : Outlet) × (why ≡ stop.WriteFault to) × (to ≢ outlet.Faults) × (to ≢ outlet.Report) × Rose (before to) (after to)

@@ -4,6 +4,8 @@ use Rattle.std.specs.Fmt.{decimal}
 use Rattle.psd_base.specs.Event.{Seen}
 use Rattle.psd_base.specs.declared.port.TheConstants.{MAX_PORTS}
 use Rattle.psd_base.specs.declared.summary.Summary.{Summary}
+use Rattle.psd_base.specs.History.{onto}
+use Rattle.kvm_program.specs.Log.{is_leave, is_refusal, noted}
 use Rattle.kvm_program.specs.Transcript.{transcript_of}
 
 -- so many numbers from one on
@@ -15,9 +17,9 @@ numbers_from start (suc count) = start ∷ numbers_from (start + 1) count
 unfoldable pub transcript_sizes : List Seen → List ℕ
 transcript_sizes events = map (λ port. length (transcript_of port events)) (numbers_from 1 MAX_PORTS)
 
--- The summary of a run over these events. No device is attached and no port is selected yet.
+-- the summary of a run over these events
 abbrev pub summary_of : ℕ → List Seen → Summary
-summary_of ports events = record { events = length events; ports = ports; refused = 0; left = 0; bytes = transcript_sizes events }
+summary_of ports events = record { events = length events; ports = ports; refused = noted is_refusal (onto events []); left = noted is_leave (onto events []); bytes = transcript_sizes events }
 
 unfoldable pub port_text : ℕ → ℕ → List ℕ
 port_text port count = codes "port " ++ decimal port ++ codes " " ++ decimal count ++ codes "\n"

@@ -7,8 +7,10 @@ use psd_base::words::Words;
 /// What the program is told to do.
 #[derive(Clone, Copy, Debug, PartialEq, Eq)]
 pub enum Command {
-    /// Replays a capture.
+    /// Replays a capture and a script.
     Replay,
+    /// Judges the rule file alone.
+    Check,
 }
 
 impl Command {
@@ -31,6 +33,8 @@ fn read_one(word: &[u8]) -> Option<Command>
 {
     if word == b"replay".as_slice() {
         Some(Command::Replay)
+    } else if word == b"check".as_slice() {
+        Some(Command::Check)
     } else {
         None
     }

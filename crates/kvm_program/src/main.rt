@@ -1,7 +1,9 @@
 //! Replays recorded USB events through the switch, and writes each computer's transcript.
 #![tactic(auto)]
 
+use port_transcript::stop_line;
 use psd_base::file_desk::FileDesk;
+use psd_base::outlet::Outlet;
 use psd_base::stop::Stop;
 use psd_base::summary::Summary;
 use psd_base::words::Words;
@@ -11,11 +13,13 @@ use std::process::ExitCode;
 use std::rt::Env;
 use std::{env, io};
 
+mod check;
 mod command;
 mod open;
 mod outlets;
 mod replay;
 mod report;
+mod rules;
 mod run;
 mod tally;
 #[cfg(test)]
@@ -56,6 +60,14 @@ fn status_of(ended: &Result<Summary, Stop>) -> u8 {
     }
 }
 
+/// Tells on standard error that an outlet couldn't be written out. Where that fails too, the status alone tells it.
+fn tell_write_fault(rt: &impl Eprint, outlet: Outlet) {
+    let line = stop_line(&Stop::WriteFault(outlet));
+    if let Ok(text) = str::from_utf8(line.as_slice()) {
+        let _ = rt.eprint(text);
+    }
+}
+
 fn main(rt: HostRuntime) -> ExitCode {
     let words = match take_words(&rt) {
         Ok(words) => words,
@@ -65,6 +77,9 @@ fn main(rt: HostRuntime) -> ExitCode {
     let status = status_of(&kvm(rt.alloc(), &words, &mut desk));
     match desk.close() {
         Ok(()) => ExitCode::from(status),
-        Err(_) => ExitCode::from(WRITE_FAULT),
+        Err(outlet) => {
+            tell_write_fault(&rt, outlet);
+            ExitCode::from(WRITE_FAULT)
+        }
     }
 }

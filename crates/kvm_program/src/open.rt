@@ -1,8 +1,8 @@
 //! Makes the outlets of a run.
 ghost use Rattle.std.specs.Prelude.{◌≡◌, ◌≢◌, ℕ, ◌≤◌, IfErr, OnErr};
 ghost use Rattle.psd_base.specs.Desk.{Rose};
-ghost use Rattle.kvm_program.specs.Outlets.{OnlyWrites};
-ghost use Rattle.kvm_program.specs.Replay.{Untouched, IsOpenFault};
+ghost use Rattle.kvm_program.specs.Outlets.{IsTextFault, OnlyWrites};
+ghost use Rattle.kvm_program.specs.Replay.{Untouched};
 
 use crate::outlets::send;
 use psd_base::desk::Desk;
@@ -14,7 +14,7 @@ use psd_base::stop::Stop;
 pub fn open_outlets<D: Desk>(desk: &mut D, ports: u8) -> Result<(), Stop>
     ensures untouched { Untouched (D.left desk.old) (D.left desk.new) (D.sent desk.old) (D.sent desk.new)
         (D.read_faults desk.old) (D.read_faults desk.new) (D.write_faults desk.old) (D.write_faults desk.new) }
-    ensures stop { IfErr result (IsOpenFault (D.write_faults desk.old) (D.write_faults desk.new)) }
+    ensures stop { IfErr result (IsTextFault (D.write_faults desk.old) (D.write_faults desk.new)) }
 {
     open_logs(desk)?;
     for number in 0..ports {
@@ -27,7 +27,7 @@ pub fn open_outlets<D: Desk>(desk: &mut D, ports: u8) -> Result<(), Stop>
 fn open_logs<D: Desk>(desk: &mut D) -> Result<(), Stop>
     ensures untouched { Untouched (D.left desk.old) (D.left desk.new) (D.sent desk.old) (D.sent desk.new)
         (D.read_faults desk.old) (D.read_faults desk.new) (D.write_faults desk.old) (D.write_faults desk.new) }
-    ensures stop { IfErr result (IsOpenFault (D.write_faults desk.old) (D.write_faults desk.new)) }
+    ensures stop { IfErr result (IsTextFault (D.write_faults desk.old) (D.write_faults desk.new)) }
 {
     touch(desk, &Outlet::Console)?;
     touch(desk, &Outlet::Log)
@@ -37,7 +37,7 @@ fn open_logs<D: Desk>(desk: &mut D) -> Result<(), Stop>
 fn open_port<D: Desk>(desk: &mut D, others: u8) -> Result<(), Stop>
     ensures untouched { Untouched (D.left desk.old) (D.left desk.new) (D.sent desk.old) (D.sent desk.new)
         (D.read_faults desk.old) (D.read_faults desk.new) (D.write_faults desk.old) (D.write_faults desk.new) }
-    ensures stop { IfErr result (IsOpenFault (D.write_faults desk.old) (D.write_faults desk.new)) }
+    ensures stop { IfErr result (IsTextFault (D.write_faults desk.old) (D.write_faults desk.new)) }
 {
     match PortId::new(others.saturating_add(1)) {
         Some(port) => touch(desk, &Outlet::Port(port)),

@@ -2,17 +2,23 @@
 ghost use Rattle.std.specs.Prelude.{◌≡◌, ◌≢◌, ℕ, ◌+◌, ◌^◌, ◌<◌, ◌≤◌, ◌==◌, if◌then◌else◌, [], length, IfErr, OnOk, OnErr};
 ghost use Rattle.psd_base.specs.Port.{IsPort};
 ghost use Rattle.psd_base.specs.Desk.{Rose};
-ghost use Rattle.kvm_program.specs.Outlets.{OnlyWrites, OnlyWritesPorts, Wrote, IsPortFault};
+ghost use Rattle.psd_base.specs.History.{number_of};
+ghost use Rattle.kvm_program.specs.Log.{is_leave, is_refusal, notes_text};
+ghost use Rattle.kvm_program.specs.Outlets.{OnlyWrites, OnlyWritesTexts, Wrote, IsTextFault};
 ghost use Rattle.kvm_program.specs.Tally.{bytes_at};
+ghost use Rattle.kvm_program.specs.Texts.{turn_text};
 ghost use Rattle.kvm_program.specs.Transcript.{text_at};
 
 use crate::tally::Tally;
-use port_transcript::{PORT_LINE_SIZE, Text, write_port_line};
+use port_transcript::{PORT_LINE_SIZE, Text, write_log_line, write_port_line};
+use psd_base::console::{NOTES_MAX, Note, Notes};
 use psd_base::desk::Desk;
+use psd_base::event::Tick;
 use psd_base::line::Line;
 use psd_base::outlet::Outlet;
 use psd_base::port::PortId;
 use psd_base::stop::Stop;
+use switch_core::Turn;
 
 /// Writes to one outlet.
 pub fn send<D: Desk>(desk: &mut D, to: &Outlet, bytes: &[u8]) -> Result<(), Stop>
@@ -28,19 +34,35 @@ pub fn send<D: Desk>(desk: &mut D, to: &Outlet, bytes: &[u8]) -> Result<(), Stop
     }
 }
 
-/// Writes to one port's transcript.
-fn send_port<D: Desk>(desk: &mut D, port: PortId, bytes: &[u8]) -> Result<(), Stop>
-    ensures wrote { Wrote result (D.sent desk.old (Outlet.Port port)) (D.sent desk.new (Outlet.Port port)) bytes.now }
-    ensures apart { (other : ℕ) → other ≢ port → D.sent desk.new (Outlet.Port other) ≡ D.sent desk.old (Outlet.Port other) }
-    ensures stop { IfErr result (IsPortFault (D.write_faults desk.old) (D.write_faults desk.new)) }
-    ensures others { OnlyWritesPorts (D.left desk.old) (D.left desk.new) (D.sent desk.old) (D.sent desk.new)
+/// Writes what one event gave: the line of a turn to its port's transcript, if there is one, and then the notes to the
+/// log. The text is room for them.
+pub fn write_turn<D: Desk>(
+    desk: &mut D,
+    tick: Tick,
+    turn: &Turn,
+    text: &mut Text,
+    tally: &mut Tally,
+) -> Result<(), Stop>
+    requires bytes { (port : ℕ) → IsPort port → bytes_at tally.old port + PORT_LINE_SIZE < 2 ^ 64 }
+    requires left { tally.old.left + NOTES_MAX < 2 ^ 32 }
+    requires refused { tally.old.refused + NOTES_MAX < 2 ^ 32 }
+    ensures wrote { (to : Outlet) → Wrote result (D.sent desk.old to) (D.sent desk.new to) (turn_text to turn.now.line tick turn.now.notes.items) }
+    ensures short { (port : ℕ) → length (text_at port turn.now.line) ≤ PORT_LINE_SIZE }
+    ensures stop { IfErr result (IsTextFault (D.write_faults desk.old) (D.write_faults desk.new)) }
+    ensures counted { OnOk result ((port : ℕ) → IsPort port → bytes_at tally.new port ≡ bytes_at tally.old port + length (text_at port turn.now.line)) }
+    ensures left { OnOk result (tally.new.left ≡ tally.old.left + number_of is_leave turn.now.notes.items) }
+    ensures refused { OnOk result (tally.new.refused ≡ tally.old.refused + number_of is_refusal turn.now.notes.items) }
+    ensures few_left { OnOk result (tally.new.left ≤ tally.old.left + NOTES_MAX) }
+    ensures few_refused { OnOk result (tally.new.refused ≤ tally.old.refused + NOTES_MAX) }
+    ensures others { OnlyWritesTexts (D.left desk.old) (D.left desk.new) (D.sent desk.old) (D.sent desk.new)
         (D.read_faults desk.old) (D.read_faults desk.new) (D.write_faults desk.old) (D.write_faults desk.new) }
 {
-    send(desk, &Outlet::Port(port), bytes)
+    write_line(desk, &turn.line, text, tally)?;
+    write_notes(desk, tick, &turn.notes, text, tally)
 }
 
-/// Writes the line of a turn to its port's transcript, if there is one. The text is room for the line.
-pub fn write_line<D: Desk>(
+/// Writes the line of a turn to its port's transcript, if there is one.
+fn write_line<D: Desk>(
     desk: &mut D,
     line: &Option<(PortId, Line)>,
     text: &mut Text,
@@ -48,10 +70,13 @@ pub fn write_line<D: Desk>(
 ) -> Result<(), Stop>
     requires { (port : ℕ) → IsPort port → bytes_at tally.old port + PORT_LINE_SIZE < 2 ^ 64 }
     ensures wrote { (port : ℕ) → Wrote result (D.sent desk.old (Outlet.Port port)) (D.sent desk.new (Outlet.Port port)) (text_at port line.now) }
+    ensures log { D.sent desk.new Outlet.Log ≡ D.sent desk.old Outlet.Log }
     ensures short { (port : ℕ) → length (text_at port line.now) ≤ PORT_LINE_SIZE }
-    ensures stop { IfErr result (IsPortFault (D.write_faults desk.old) (D.write_faults desk.new)) }
+    ensures stop { IfErr result (IsTextFault (D.write_faults desk.old) (D.write_faults desk.new)) }
     ensures counted { OnOk result ((port : ℕ) → IsPort port → bytes_at tally.new port ≡ bytes_at tally.old port + length (text_at port line.now)) }
-    ensures others { OnlyWritesPorts (D.left desk.old) (D.left desk.new) (D.sent desk.old) (D.sent desk.new)
+    ensures left { tally.new.left ≡ tally.old.left }
+    ensures refused { tally.new.refused ≡ tally.old.refused }
+    ensures others { OnlyWritesTexts (D.left desk.old) (D.left desk.new) (D.sent desk.old) (D.sent desk.new)
         (D.read_faults desk.old) (D.read_faults desk.new) (D.write_faults desk.old) (D.write_faults desk.new) }
 {
     match line {
@@ -64,6 +89,18 @@ pub fn write_line<D: Desk>(
     }
 }
 
+/// Writes to one port's transcript.
+fn send_port<D: Desk>(desk: &mut D, port: PortId, bytes: &[u8]) -> Result<(), Stop>
+    ensures wrote { Wrote result (D.sent desk.old (Outlet.Port port)) (D.sent desk.new (Outlet.Port port)) bytes.now }
+    ensures apart { (other : ℕ) → other ≢ port → D.sent desk.new (Outlet.Port other) ≡ D.sent desk.old (Outlet.Port other) }
+    ensures log { D.sent desk.new Outlet.Log ≡ D.sent desk.old Outlet.Log }
+    ensures stop { IfErr result (IsTextFault (D.write_faults desk.old) (D.write_faults desk.new)) }
+    ensures others { OnlyWritesTexts (D.left desk.old) (D.left desk.new) (D.sent desk.old) (D.sent desk.new)
+        (D.read_faults desk.old) (D.read_faults desk.new) (D.write_faults desk.old) (D.write_faults desk.new) }
+{
+    send(desk, &Outlet::Port(port), bytes)
+}
+
 /// Writes a text to one port's transcript, and counts its bytes.
 fn write_text<D: Desk>(
     desk: &mut D,
@@ -73,12 +110,57 @@ fn write_text<D: Desk>(
 ) -> Result<(), Stop>
     requires { (port : ℕ) → IsPort port → bytes_at tally.old port + length text.now.items < 2 ^ 64 }
     ensures wrote { (other : ℕ) → Wrote result (D.sent desk.old (Outlet.Port other)) (D.sent desk.new (Outlet.Port other)) (if port == other then text.now.items else []) }
-    ensures stop { IfErr result (IsPortFault (D.write_faults desk.old) (D.write_faults desk.new)) }
+    ensures log { D.sent desk.new Outlet.Log ≡ D.sent desk.old Outlet.Log }
+    ensures stop { IfErr result (IsTextFault (D.write_faults desk.old) (D.write_faults desk.new)) }
     ensures counted { OnOk result ((other : ℕ) → IsPort other → bytes_at tally.new other ≡ bytes_at tally.old other + length (if port == other then text.now.items else [])) }
-    ensures others { OnlyWritesPorts (D.left desk.old) (D.left desk.new) (D.sent desk.old) (D.sent desk.new)
+    ensures left { tally.new.left ≡ tally.old.left }
+    ensures refused { tally.new.refused ≡ tally.old.refused }
+    ensures others { OnlyWritesTexts (D.left desk.old) (D.left desk.new) (D.sent desk.old) (D.sent desk.new)
         (D.read_faults desk.old) (D.read_faults desk.new) (D.write_faults desk.old) (D.write_faults desk.new) }
 {
     send_port(desk, port, text.as_slice())?;
     tally.add(port, text.len());
     Ok(())
+}
+
+/// Writes the notes of an event to the log, if there are some.
+fn write_notes<D: Desk>(
+    desk: &mut D,
+    tick: Tick,
+    notes: &Notes,
+    text: &mut Text,
+    tally: &mut Tally,
+) -> Result<(), Stop>
+    requires left { tally.old.left + NOTES_MAX < 2 ^ 32 }
+    requires refused { tally.old.refused + NOTES_MAX < 2 ^ 32 }
+    ensures wrote { Wrote result (D.sent desk.old Outlet.Log) (D.sent desk.new Outlet.Log) (notes_text tick notes.now.items) }
+    ensures ports { (port : ℕ) → D.sent desk.new (Outlet.Port port) ≡ D.sent desk.old (Outlet.Port port) }
+    ensures stop { IfErr result (IsTextFault (D.write_faults desk.old) (D.write_faults desk.new)) }
+    ensures counted { (port : ℕ) → bytes_at tally.new port ≡ bytes_at tally.old port }
+    ensures left { OnOk result (tally.new.left ≡ tally.old.left + number_of is_leave notes.now.items) }
+    ensures refused { OnOk result (tally.new.refused ≡ tally.old.refused + number_of is_refusal notes.now.items) }
+    ensures few_left { OnOk result (tally.new.left ≤ tally.old.left + NOTES_MAX) }
+    ensures few_refused { OnOk result (tally.new.refused ≤ tally.old.refused + NOTES_MAX) }
+    ensures others { OnlyWritesTexts (D.left desk.old) (D.left desk.new) (D.sent desk.old) (D.sent desk.new)
+        (D.read_faults desk.old) (D.read_faults desk.new) (D.write_faults desk.old) (D.write_faults desk.new) }
+{
+    if notes.is_empty() {
+        return Ok(());
+    }
+    text.clear();
+    append_notes(text, tick, notes.as_slice());
+    send(desk, &Outlet::Log, text.as_slice())?;
+    tally.note(notes.as_slice());
+    Ok(())
+}
+
+/// Appends the lines of notes. There is room for them.
+fn append_notes(text: &mut Text, tick: Tick, notes: &[Note])
+    requires few { length notes.now ≤ NOTES_MAX }
+    requires empty { text.old.items ≡ [] }
+    ensures { text.new.items ≡ notes_text tick notes.now }
+{
+    for note in notes {
+        write_log_line(tick, note, text);
+    }
 }

@@ -1,13 +1,17 @@
-//! The replay: every event of the capture is served, and each line is written to its port.
+//! The replay: every event of the capture and the script is served, and what it gives is written.
 ghost use Rattle.std.specs.Prelude.{◌≡◌, ◌≢◌, ℕ, ◌+◌, ◌*◌, ◌^◌, ◌<◌, ◌≤◌, List, [], ◌∷◌, length, Option, option_map, IfSome, IfOk, IfErr, OnOk, OnErr};
 ghost use Rattle.psd_base.specs.Port.{IsPort};
 ghost use Rattle.capture_reader.specs.Reader.{rest};
 ghost use Rattle.switch_core.specs.StandsFor.{StandsFor, port_total, line_at};
-ghost use Rattle.kvm_program.specs.Outlets.{OnlyWritesPorts, Wrote, IsPortFault};
+ghost use Rattle.switch_core.specs.Notes.{notes_at};
+ghost use Rattle.psd_base.specs.History.{number_of, onto};
+ghost use Rattle.kvm_program.specs.Log.{is_leave, is_refusal};
+ghost use Rattle.kvm_program.specs.Outlets.{OnlyWritesTexts, Wrote, IsTextFault};
 ghost use Rattle.kvm_program.specs.Tally.{bytes_at};
+ghost use Rattle.kvm_program.specs.Texts.{step_text, text_of};
 ghost use Rattle.kvm_program.specs.Transcript.{text_at};
 
-use crate::outlets::write_line;
+use crate::outlets::write_turn;
 use crate::tally::Tally;
 use capture_reader::Reader;
 use port_transcript::{PORT_LINE_SIZE, Text};
@@ -28,18 +32,16 @@ pub struct Server {
 }
 
 impl Server {
-    ghost use Rattle.psd_base.specs.Event.{Seen, seen, happening_of};
+    ghost use Rattle.psd_base.specs.Event.{Seen, seen, happening_of, HappensWithin};
     ghost use Rattle.std.specs.Prelude.{Some, None, Ok, true, false};
     ghost use Rattle.capture_reader.specs.Schedule.{Schedule, over};
-    ghost use Rattle.switch_core.specs.StandsFor.{NamesPortUpTo};
-    ghost use Rattle.kvm_program.specs.Progress.{Progress, Finished, IsReady, WroteAtStop, ServingStops, OnlyServes};
+    ghost use Rattle.kvm_program.specs.Progress.{Counts, Progress, Finished, HasRoom, IsReady, WroteAtStop, ServingStops, OnlyServes};
     ghost use Rattle.kvm_program.specs.Report.{summary_of};
-    ghost use Rattle.kvm_program.specs.Transcript.{transcript_of};
 
     /// What serves with this switch, before any event.
     pub fn new(switch: Switch) -> Server
         ensures switch { result.switch ≡ switch }
-        ensures empty { (port : ℕ) → IsPort port → bytes_at result.tally port ≡ 0 }
+        ensures empty { Counts result.tally [] }
     {
         Server {
             switch,
@@ -53,38 +55,42 @@ impl Server {
     pub fn summary(&self, ports: u8) -> Summary
         ensures ports { result.ports ≡ ports }
         ensures counts { (events : List Seen) → self.now.switch.served ≡ length events
-            → ((port : ℕ) → IsPort port → bytes_at self.now.tally port ≡ length (transcript_of port events))
-            → result ≡ summary_of ports events }
+            → Counts self.now.tally (onto events []) → result ≡ summary_of ports events }
     {
         Summary {
             events: self.switch.served(),
             ports,
-            refused: 0,
-            left: 0,
+            refused: self.tally.refused(),
+            left: self.tally.left(),
             bytes: self.tally.bytes(),
         }
     }
 
-    /// Serves one event, and writes its line.
+    /// Serves one event, and writes what it gives.
     pub fn serve<D: Desk>(&mut self, desk: &mut D, event: &Event) -> Result<(), Stop>
-        requires known { NamesPortUpTo (port_total self.old.switch) (happening_of event.now.what) }
+        requires known { HappensWithin (port_total self.old.switch) (happening_of event.now.what) }
         requires few { self.old.switch.served < EVENTS_MAX }
-        requires room { (port : ℕ) → IsPort port → bytes_at self.old.tally port + PORT_LINE_SIZE < 2 ^ 64 }
+        requires room { HasRoom self.old.tally self.old.switch.served }
         ensures stands { (past : List Seen) → StandsFor self.old.switch past → StandsFor self.new.switch (seen event.now ∷ past) }
-        ensures wrote { (past : List Seen) → StandsFor self.old.switch past → (port : ℕ) →
-            Wrote result (D.sent desk.old (Outlet.Port port)) (D.sent desk.new (Outlet.Port port)) (text_at port (line_at (seen event.now) past)) }
-        ensures short { (past : List Seen) → StandsFor self.old.switch past → (port : ℕ) → length (text_at port (line_at (seen event.now) past)) ≤ PORT_LINE_SIZE }
-        ensures counted { (past : List Seen) → StandsFor self.old.switch past → OnOk result ((port : ℕ) → IsPort port →
-            bytes_at self.new.tally port ≡ bytes_at self.old.tally port + length (text_at port (line_at (seen event.now) past))) }
-        ensures bounded { OnOk result ((port : ℕ) → IsPort port → bytes_at self.new.tally port ≤ bytes_at self.old.tally port + PORT_LINE_SIZE) }
+        ensures wrote { (past : List Seen) → StandsFor self.old.switch past → (to : Outlet) →
+            Wrote result (D.sent desk.old to) (D.sent desk.new to) (step_text to (seen event.now) past) }
+        ensures counted { (past : List Seen) → StandsFor self.old.switch past → Counts self.old.tally past
+            → OnOk result (Counts self.new.tally (seen event.now ∷ past)) }
+        ensures room { OnOk result (HasRoom self.new.tally self.new.switch.served) }
         ensures served { self.new.switch.served ≡ self.old.switch.served + 1 }
         ensures ports { port_total self.new.switch ≡ port_total self.old.switch }
-        ensures stop { IfErr result (IsPortFault (D.write_faults desk.old) (D.write_faults desk.new)) }
-        ensures others { OnlyWritesPorts (D.left desk.old) (D.left desk.new) (D.sent desk.old) (D.sent desk.new)
+        ensures stop { IfErr result (IsTextFault (D.write_faults desk.old) (D.write_faults desk.new)) }
+        ensures others { OnlyWritesTexts (D.left desk.old) (D.left desk.new) (D.sent desk.old) (D.sent desk.new)
             (D.read_faults desk.old) (D.read_faults desk.new) (D.write_faults desk.old) (D.write_faults desk.new) }
     {
         self.switch.step(event, &mut self.turn);
-        write_line(desk, &self.turn.line, &mut self.text, &mut self.tally)
+        write_turn(
+            desk,
+            event.tick,
+            &self.turn,
+            &mut self.text,
+            &mut self.tally,
+        )
     }
 
     /// Serves the next event of the reader, if there is one.
@@ -94,16 +100,16 @@ impl Server {
         ensures counted { result ≡ Ok true → (reader.new.served ≡ reader.old.served + 1) × (reader.new.served ≤ reader.old.limit) }
         ensures same { OnOk result ((reader.new.limit ≡ reader.old.limit) × (reader.new.ports ≡ reader.old.ports)) }
         ensures going { result ≡ Ok true → (coming : Option Schedule) (sent : Outlet → Option (List ℕ)) →
-            Progress coming (rest reader.old (D.left desk.old Input.Capture)) sent (D.sent desk.old) self.old.switch self.old.tally →
-            Progress coming (rest reader.new (D.left desk.new Input.Capture)) sent (D.sent desk.new) self.new.switch self.new.tally }
-        ensures ended { result ≡ Ok false → IfSome (rest reader.old (D.left desk.old Input.Capture)) (λ left. left ≡ over None) }
+            Progress coming (rest reader.old (D.left desk.old Input.Capture) (D.left desk.old Input.Script)) sent (D.sent desk.old) self.old.switch self.old.tally →
+            Progress coming (rest reader.new (D.left desk.new Input.Capture) (D.left desk.new Input.Script)) sent (D.sent desk.new) self.new.switch self.new.tally }
+        ensures ended { result ≡ Ok false → IfSome (rest reader.old (D.left desk.old Input.Capture) (D.left desk.old Input.Script)) (λ left. left ≡ over None) }
         ensures idle { result ≡ Ok false → ((outlet : Outlet) → D.sent desk.new outlet ≡ D.sent desk.old outlet)
             × (self.new.switch ≡ self.old.switch) × (self.new.tally ≡ self.old.tally) }
-        ensures written { IfErr result (λ stop. (schedule : Schedule) (sent : Outlet → Option (List ℕ)) (port : ℕ) →
-            Progress (Some schedule) (rest reader.old (D.left desk.old Input.Capture)) sent (D.sent desk.old) self.old.switch self.old.tally →
-            WroteAtStop stop (transcript_of port schedule.events) (sent (Outlet.Port port)) (D.sent desk.new (Outlet.Port port))) }
+        ensures written { IfErr result (λ stop. (schedule : Schedule) (sent : Outlet → Option (List ℕ)) (to : Outlet) →
+            Progress (Some schedule) (rest reader.old (D.left desk.old Input.Capture) (D.left desk.old Input.Script)) sent (D.sent desk.old) self.old.switch self.old.tally →
+            WroteAtStop stop (text_of to schedule.events) (sent to) (D.sent desk.new to)) }
         ensures stop { IfErr result (λ stop. (coming : Option Schedule) (sent : Outlet → Option (List ℕ)) →
-            Progress coming (rest reader.old (D.left desk.old Input.Capture)) sent (D.sent desk.old) self.old.switch self.old.tally →
+            Progress coming (rest reader.old (D.left desk.old Input.Capture) (D.left desk.old Input.Script)) sent (D.sent desk.old) self.old.switch self.old.tally →
             ServingStops stop coming (D.read_faults desk.old) (D.read_faults desk.new) (D.write_faults desk.old) (D.write_faults desk.new)) }
         ensures others { OnlyServes (D.left desk.old) (D.left desk.new) (D.sent desk.old) (D.sent desk.new)
             (D.read_faults desk.old) (D.read_faults desk.new) (D.write_faults desk.old) (D.write_faults desk.new) }
@@ -120,13 +126,13 @@ impl Server {
     pub fn serve_all<D: Desk>(&mut self, reader: &mut Reader, desk: &mut D) -> Result<(), Stop>
         requires { IsReady reader.old self.old.switch self.old.tally }
         ensures finished { OnOk result ((schedule : Schedule) (sent : Outlet → Option (List ℕ)) →
-            Progress (Some schedule) (rest reader.old (D.left desk.old Input.Capture)) sent (D.sent desk.old) self.old.switch self.old.tally →
+            Progress (Some schedule) (rest reader.old (D.left desk.old Input.Capture) (D.left desk.old Input.Script)) sent (D.sent desk.old) self.old.switch self.old.tally →
             Finished schedule sent (D.sent desk.new) self.new.switch self.new.tally) }
-        ensures written { IfErr result (λ stop. (schedule : Schedule) (sent : Outlet → Option (List ℕ)) (port : ℕ) →
-            Progress (Some schedule) (rest reader.old (D.left desk.old Input.Capture)) sent (D.sent desk.old) self.old.switch self.old.tally →
-            WroteAtStop stop (transcript_of port schedule.events) (sent (Outlet.Port port)) (D.sent desk.new (Outlet.Port port))) }
+        ensures written { IfErr result (λ stop. (schedule : Schedule) (sent : Outlet → Option (List ℕ)) (to : Outlet) →
+            Progress (Some schedule) (rest reader.old (D.left desk.old Input.Capture) (D.left desk.old Input.Script)) sent (D.sent desk.old) self.old.switch self.old.tally →
+            WroteAtStop stop (text_of to schedule.events) (sent to) (D.sent desk.new to)) }
         ensures stop { IfErr result (λ stop. (coming : Option Schedule) (sent : Outlet → Option (List ℕ)) →
-            Progress coming (rest reader.old (D.left desk.old Input.Capture)) sent (D.sent desk.old) self.old.switch self.old.tally →
+            Progress coming (rest reader.old (D.left desk.old Input.Capture) (D.left desk.old Input.Script)) sent (D.sent desk.old) self.old.switch self.old.tally →
             ServingStops stop coming (D.read_faults desk.old) (D.read_faults desk.new) (D.write_faults desk.old) (D.write_faults desk.new)) }
         ensures others { OnlyServes (D.left desk.old) (D.left desk.new) (D.sent desk.old) (D.sent desk.new)
             (D.read_faults desk.old) (D.read_faults desk.new) (D.write_faults desk.old) (D.write_faults desk.new) }

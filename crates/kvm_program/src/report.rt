@@ -9,7 +9,7 @@ use psd_base::port::MAX_PORTS;
 use psd_base::summary::Summary;
 
 /// The most bytes of a line of the report.
-const REPORT_LINE_SIZE: usize = 40;
+pub const REPORT_LINE_SIZE: usize = 40;
 
 /// The report: the counts, and then the bytes of each port's transcript, one line each.
 #[tactic(auto, unfolding(crate::specs::Report::report_text))]
@@ -27,7 +27,7 @@ pub fn report(summary: &Summary) -> Text
 }
 
 /// Appends a line of a name and a number.
-fn append_count(text: &mut Text, name: &[u8], count: u32)
+pub fn append_count(text: &mut Text, name: &[u8], count: u32)
     requires name { length name.now ≤ 10 }
     requires room { array_vec_len text.old + REPORT_LINE_SIZE ≤ TEXT_SIZE }
     ensures items { text.new.items ≡ text.old.items ++ (name.now ++ decimal count ++ codes "\n") }

@@ -3,7 +3,7 @@ use crate::run::kvm;
 use psd_base::memory_desk::MemoryDesk;
 use psd_base::outlet::{Input, Outlet};
 use psd_base::port::PortId;
-use psd_base::stop::{CaptureFault, Stop};
+use psd_base::stop::{CaptureFault, RuleList, RulesFault, ScriptFault, Stop};
 use psd_base::summary::Summary;
 use psd_base::words::Words;
 use std::alloc::Global;
@@ -21,18 +21,25 @@ const DEVICE_DESCRIPTOR: [u8; 47] = [
     1, 0, 0, 0, 0x12, 0x41, 3, 0, 0, 0, 1,
 ];
 
+/// The four checks of the self-test pass.
+const PASSES: &[u8] = b"0 check 1 pass\n0 check 2 pass\n0 check 3 pass\n0 check 4 pass\n";
+
 const TRANSCRIPT: &[u8] =
     b"1 KM SETUP 0 8006000100004000 -> ACK\n1 KM IN 0 0 1 -> DATA 1 1201000200000040feff0100000100000001\n1 KM OUT 0 0 1 - -> ACK\n";
 
-const REPORT: &[u8] = b"events 3\nports 2\nrefused 0\nleft 0\nport 1 122\nport 2 0\n";
+const REPORT: &[u8] = b"events 7\nports 2\nrefused 0\nleft 0\nport 1 122\nport 2 0\n";
 
 fn desk(alloc: Global, capture: &[u8]) -> Result<MemoryDesk, Fail> {
-    Ok(MemoryDesk::new(alloc, &[], capture, &[], ROOM)?)
+    Ok(MemoryDesk::new(alloc, &[], capture, PASSES, ROOM)?)
 }
 
 fn replay(alloc: Global, desk: &mut MemoryDesk) -> Result<Summary, Stop> {
+    obey(alloc, "replay", desk)
+}
+
+fn obey(alloc: Global, word: &str, desk: &mut MemoryDesk) -> Result<Summary, Stop> {
     let mut words = Words::new();
-    words.push("replay");
+    words.push(word);
     kvm(alloc, &words, desk)
 }
 
@@ -52,6 +59,7 @@ fn one_descriptor_is_read(rt: HostRuntime) -> Result<(), Fail> {
         );
         assert_eq!(rt; desk.sent(port(1)?), TRANSCRIPT);
         assert_eq!(rt; desk.sent(port(2)?), b"".as_slice());
+        assert_eq!(rt; desk.sent(Outlet::Log), b"0 ALIVE\n".as_slice());
         assert_eq!(rt; desk.sent(Outlet::Report), REPORT);
         assert_eq!(rt; desk.sent(Outlet::Faults), b"".as_slice());
     }
@@ -74,14 +82,20 @@ fn want_of_memory_is_told(rt: HostRuntime) {
     }
 }
 
+/// The first read is that of the rules, the second that of the capture's header, and the third that of the script.
 #[test]
 fn a_failed_read_stops(rt: HostRuntime) -> Result<(), Fail> {
-    let mut desk = desk(rt.alloc(), &DEVICE_DESCRIPTOR)?;
-    desk.fail_read(1)?;
-    assert_eq!(rt;
-        replay(rt.alloc(), &mut desk),
-        Err(Stop::ReadFault(Input::Capture))
-    );
+    for (call, input, line) in [
+        (1, Input::Rules, b"read fault rules\n".as_slice()),
+        (2, Input::Capture, b"read fault capture\n".as_slice()),
+        (3, Input::Script, b"read fault script\n".as_slice()),
+    ] {
+        let mut desk = desk(rt.alloc(), &DEVICE_DESCRIPTOR)?;
+        desk.fail_read(call)?;
+        assert_eq!(rt; replay(rt.alloc(), &mut desk), Err(Stop::ReadFault(input)));
+        assert_eq!(rt; desk.sent(Outlet::Faults), line);
+        assert_eq!(rt; desk.sent(Outlet::Log), b"".as_slice());
+    }
     Ok(())
 }
 
@@ -94,19 +108,24 @@ fn a_failed_write_stops(rt: HostRuntime) -> Result<(), Fail> {
         replay(rt.alloc(), &mut desk),
         Err(Stop::WriteFault(port(1)?))
     );
+    assert_eq!(rt;
+        desk.sent(Outlet::Faults),
+        b"write fault port 1\n".as_slice()
+    );
     Ok(())
 }
 
-/// The fifth write is that of port 1's first line, of which four bytes are kept.
+/// The fifth write is that of the log's first line, and the sixth that of port 1's, of which four bytes are kept.
 #[test]
 fn a_line_is_written_in_part(rt: HostRuntime) -> Result<(), Fail> {
     let mut desk = desk(rt.alloc(), &DEVICE_DESCRIPTOR)?;
-    desk.fail_write(5, 4)?;
+    desk.fail_write(6, 4)?;
     assert_eq!(rt;
         replay(rt.alloc(), &mut desk),
         Err(Stop::WriteFault(port(1)?))
     );
     assert_eq!(rt; desk.sent(port(1)?), b"1 KM".as_slice());
+    assert_eq!(rt; desk.sent(Outlet::Log), b"0 ALIVE\n".as_slice());
     assert_eq!(rt; desk.sent(Outlet::Report), b"".as_slice());
     Ok(())
 }
@@ -125,6 +144,62 @@ fn a_cut_record_stops_behind_the_whole_ones(rt: HostRuntime) -> Result<(), Fail>
         b"capture 36 truncated\n".as_slice()
     );
     Ok(())
+}
+
+#[test]
+fn a_faulty_line_stops(rt: HostRuntime) -> Result<(), Fail> {
+    for (script, why, line) in [
+        (
+            b"0 gaurd down\n".as_slice(),
+            ScriptFault::NotALine,
+            b"script 1 not-a-line\n".as_slice(),
+        ),
+        (
+            b"0 3 down\n".as_slice(),
+            ScriptFault::NoSuchPort,
+            b"script 1 no-such-port\n".as_slice(),
+        ),
+    ] {
+        let mut desk = MemoryDesk::new(rt.alloc(), &[], &DEVICE_DESCRIPTOR, script, ROOM)?;
+        assert_eq!(rt;
+            replay(rt.alloc(), &mut desk),
+            Err(Stop::Script { line: 1, why })
+        );
+        assert_eq!(rt; desk.sent(Outlet::Faults), line);
+        assert_eq!(rt; desk.sent(port(1)?), b"".as_slice());
+    }
+    Ok(())
+}
+
+/// Rules are judged before the capture is read.
+#[test]
+fn refused_rules_stop(rt: HostRuntime) -> Result<(), Fail> {
+    let mut desk = MemoryDesk::new(rt.alloc(), b"deny = [{}]", &[], &[], ROOM)?;
+    let fault = RulesFault::Shape {
+        list: RuleList::Deny,
+        entry: 1,
+    };
+    assert_eq!(rt; replay(rt.alloc(), &mut desk), Err(Stop::Rules(fault)));
+    assert_eq!(rt;
+        desk.sent(Outlet::Faults),
+        b"rules shape deny 1\n".as_slice()
+    );
+    Ok(())
+}
+
+/// Where an allocation fails, which a run of the tests can ask for, the answer is want of memory.
+#[test]
+fn rules_are_checked(rt: HostRuntime) {
+    let made = MemoryDesk::new(rt.alloc(), b"[[deny]]\nvendor = 4660\n", &[], &[], ROOM);
+    if let Ok(mut desk) = made {
+        match obey(rt.alloc(), "check", &mut desk) {
+            Ok(summary) => {
+                assert_eq!(rt; (summary.events, summary.ports, summary.refused), (0, 0, 0));
+                assert_eq!(rt; desk.sent(Outlet::Report), b"allow 0\ndeny 1\n".as_slice());
+            }
+            Err(stop) => assert_eq!(rt; stop, Stop::OutOfMemory),
+        }
+    }
 }
 
 #[test]

@@ -11,6 +11,7 @@ use Rattle.std.specs.Str.{bytes_eq}
 use Rattle.hex.proofs.HexLemmas.{decode_of-ok, decode_sized-ok, decode_sized-twice}
 use Rattle.hex.specs.Hex.{IsBytes, decode_sized}
 use Rattle.hex.specs.declared.error.FromHexError.{FromHexError}
+use Rattle.psd_base.specs.Reading.{number_after, number_in, with_digit, ◌>>=◌}
 use Rattle.psd_base.specs.Setup.{setup_of}
 use Rattle.psd_base.specs.declared.act.Act.{Act}
 use Rattle.psd_base.specs.declared.act.Act.TheVariants as act
@@ -19,7 +20,7 @@ use Rattle.psd_base.specs.declared.act.Answer.TheVariants as answer
 use Rattle.psd_base.specs.declared.line.Line.{Line}
 use Rattle.psd_base.specs.declared.setup.Setup.{Setup}
 use Rattle.port_transcript.specs.PortLine.{IsAct, IsAnswer, IsLine, IsPacket, IsSetup}
-use Rattle.port_transcript.specs.Reading.{act_at, answer_in, byte_of, data_in, first_word, flag_of, in_at, line_in, number_after, number_of, other_words, out_at, packet_of, setup_at, setup_in, side_of, with_digit, ◌>>=◌}
+use Rattle.port_transcript.specs.Reading.{act_at, answer_in, byte_of, data_in, first_word, flag_of, in_at, line_in, other_words, out_at, packet_of, setup_at, setup_in, side_of}
 
 -- ---- tools
 
@@ -56,14 +57,14 @@ number_after-fits number (byte ∷ digits) n small is =
     let step = bind_some (with_digit number byte) (λ more. number_after more digits) n is in
     number_after-fits step.0 digits n (with_digit-fits number byte step.0 step.1) step.2
 
-number_of-fits : (word : List ℕ) (n : ℕ) → number_of word ≡ Some n → n < 2 ^ 32
-unfolding number_of
-number_of-fits word n is = number_after-fits 0 word n (omega arith) is
+number_in-fits : (word : List ℕ) (n : ℕ) → number_in word ≡ Some n → n < 2 ^ 32
+unfolding number_in
+number_in-fits word n is = number_after-fits 0 word n (omega arith) is
 
 byte_of-fits : (word : List ℕ) (n : ℕ) → byte_of word ≡ Some n → n < 2 ^ 8
 unfolding byte_of
 byte_of-fits word n is =
-    let step = bind_some (number_of word) (λ number. cond (nat_lt number 256) (Some number) None) n is in
+    let step = bind_some (number_in word) (λ number. cond (nat_lt number 256) (Some number) None) n is in
     let found = cond_some (nat_lt step.0 256) step.0 n step.2 in
     let fits : step.0 < 256 = grind (arith, nat_tests, found.0) in
     omega (arith, fits, found.1)
@@ -220,13 +221,13 @@ unfolding line_in
 line_in-fits bytes line is =
     let second = other_words bytes in
     let third = other_words second in
-    let tick = bind_some (number_of (first_word bytes)) (λ tick. side_of (first_word second) >>= λ side. act_at third >>= λ found. answer_in (other_words found.1) >>= λ one. Some (record { tick = tick; side = side; act = found.0; answer = one })) line is in
+    let tick = bind_some (number_in (first_word bytes)) (λ tick. side_of (first_word second) >>= λ side. act_at third >>= λ found. answer_in (other_words found.1) >>= λ one. Some (record { tick = tick; side = side; act = found.0; answer = one })) line is in
     let side = bind_some (side_of (first_word second)) (λ side. act_at third >>= λ found. answer_in (other_words found.1) >>= λ one. Some (record { tick = tick.0; side = side; act = found.0; answer = one })) line tick.2 in
     let found = bind_some (act_at third) (λ found. answer_in (other_words found.1) >>= λ one. Some (record { tick = tick.0; side = side.0; act = found.0; answer = one })) line side.2 in
     let one = bind_some (answer_in (other_words found.0.1)) (λ one. Some (record { tick = tick.0; side = side.0; act = found.0.0; answer = one })) line found.2 in
     let same : record { tick = tick.0; side = side.0; act = found.0.0; answer = one.0 } ≡ line = cc (one.2) in
     subst IsLine {x = record { tick = tick.0; side = side.0; act = found.0.0; answer = one.0 }} same (record {
-      tick = number_of-fits (first_word bytes) tick.0 tick.1;
+      tick = number_in-fits (first_word bytes) tick.0 tick.1;
       act = act_at-fits third found.0 found.1;
       answer = answer_in-fits (other_words found.0.1) one.0 one.1;
     })

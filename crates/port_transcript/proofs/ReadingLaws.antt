@@ -14,6 +14,7 @@ use Rattle.std.specs.Str.{bytes_eq}
 use Rattle.hex.proofs.HexLemmas.{decode_sized-encode_lower, length-encode_with}
 use Rattle.hex.specs.Hex.{IsBytes, decode_sized, encode_lower, encode_with, lower_digits}
 use Rattle.hex.specs.declared.error.FromHexError.{FromHexError}
+use Rattle.psd_base.specs.Reading.{number_after, number_in, with_digit, ◌>>=◌}
 use Rattle.psd_base.specs.Setup.{setup_bytes, setup_of}
 use Rattle.psd_base.specs.declared.act.Act.{Act}
 use Rattle.psd_base.specs.declared.act.Act.TheVariants as act
@@ -24,7 +25,7 @@ use Rattle.psd_base.specs.declared.act.Side.TheVariants.{Km, Ua}
 use Rattle.psd_base.specs.declared.line.Line.{Line}
 use Rattle.psd_base.specs.declared.setup.Setup.{Setup}
 use Rattle.port_transcript.specs.PortLine.{IsAct, IsAnswer, IsLine, IsPacket, IsSetup, act_text, answer_text, line_text, side_text}
-use Rattle.port_transcript.specs.Reading.{act_at, answer_in, byte_of, data_in, first_word, flag_of, in_at, is_break, line_in, number_after, number_of, other_words, out_at, packet_of, setup_at, setup_in, side_of, with_digit, ◌>>=◌}
+use Rattle.port_transcript.specs.Reading.{act_at, answer_in, byte_of, data_in, first_word, flag_of, in_at, is_break, line_in, other_words, out_at, packet_of, setup_at, setup_in, side_of}
 use Rattle.port_transcript.specs.Text.{bytes_text, flag_text}
 
 -- ---- words
@@ -124,9 +125,9 @@ with_digit-after : (n : ℕ) (digits : List ℕ) → n < 2 ^ 32 → number_after
 with_digit-after n digits small is =
     number_after-push 0 digits (48 + n % 10) ∙ (ap (λ (o : Option ℕ). o >>= λ more. with_digit more (48 + n % 10)) is ∙ with_digit-last n small)
 
-number_of-decimal : (n : ℕ) → n < 2 ^ 32 → number_of (decimal n) ≡ Some n
-unfolding number_of number_after
-number_of-decimal n small =
+number_in-decimal : (n : ℕ) → n < 2 ^ 32 → number_in (decimal n) ≡ Some n
+unfolding number_in number_after
+number_in-decimal n small =
     decimal_by_steps (λ n digits. n < 2 ^ 32 → number_after 0 digits ≡ Some n)
     (λ n one fits. rw (with_digit-only n one) refl)
     (λ n digits large is fits. with_digit-after n digits fits (is (omega arith)))
@@ -134,7 +135,7 @@ number_of-decimal n small =
 
 byte_of-decimal : (n : ℕ) → n < 2 ^ 8 → byte_of (decimal n) ≡ Some n
 unfolding byte_of
-byte_of-decimal n small = rw (number_of-decimal n (omega arith)) (grind (arith, nat_tests))
+byte_of-decimal n small = rw (number_in-decimal n (omega arith)) (grind (arith, nat_tests))
 
 flag_of-flag_text : (flag : Bool) → flag_of (flag_text flag) ≡ Some flag
 unfolding flag_of
@@ -303,7 +304,7 @@ line_in-words line is =
     rw (
       other_words-ends (decimal line.tick) (side_text line.side ++ 32 ∷ (act_text line.act ++ 32 ∷ (45 ∷ 62 ∷ 32 ∷ (answer_text line.answer ++ 10 ∷ [])))) 32 (IsWord-decimal line.tick (omega (arith, is.tick))) refl,
       first_word-ends (decimal line.tick) (side_text line.side ++ 32 ∷ (act_text line.act ++ 32 ∷ (45 ∷ 62 ∷ 32 ∷ (answer_text line.answer ++ 10 ∷ [])))) 32 (IsWord-decimal line.tick (omega (arith, is.tick))) refl,
-      number_of-decimal line.tick is.tick,
+      number_in-decimal line.tick is.tick,
       other_words-ends (side_text line.side) (act_text line.act ++ 32 ∷ (45 ∷ 62 ∷ 32 ∷ (answer_text line.answer ++ 10 ∷ []))) 32 (IsWord-side_text line.side) refl,
       first_word-ends (side_text line.side) (act_text line.act ++ 32 ∷ (45 ∷ 62 ∷ 32 ∷ (answer_text line.answer ++ 10 ∷ []))) 32 (IsWord-side_text line.side) refl,
       side_of-side_text line.side,

@@ -1,11 +1,11 @@
 -- How the words of a port's line are read. A line is read only where its own text is the bytes, so these
 -- definitions may take more than line texts.
 use Rattle.std.specs.Prelude.{ℕ, ◌+◌, ◌-◌, ◌*◌, ◌/◌, ◌^◌, ◌==◌, ◌||◌, ◌&&◌, nat_lt, Bool, true, false, if◌then◌else◌, List, [], ◌∷◌, length, Option, Some, None, codes}
-use Rattle.std.specs.Char.{is_ascii_digit}
 use Rattle.std.specs.List.{after_first, before_first}
 use Rattle.std.specs.Result.{result_ok}
 use Rattle.std.specs.Str.{bytes_eq}
 use Rattle.hex.specs.Hex.{decode_sized}
+use Rattle.psd_base.specs.Reading.{◌>>=◌, number_in}
 use Rattle.psd_base.specs.Setup.{setup_of}
 use Rattle.psd_base.specs.declared.act.Act.{Act}
 use Rattle.psd_base.specs.declared.act.Act.TheVariants as act
@@ -17,12 +17,6 @@ use Rattle.psd_base.specs.declared.line.Line.{Line}
 use Rattle.psd_base.specs.declared.packet.TheConstants.{PACKET_SIZE}
 use Rattle.psd_base.specs.declared.setup.Setup.{Setup}
 
--- the second step, if the first gave a value
-infixl 10 ◌>>=◌
-abbrev pub ◌>>=◌ : {A B : Type 0} → Option A → (A → Option B) → Option B
-None >>= f = None
-(Some x) >>= f = f x
-
 -- a blank or a line feed ends a word
 abbrev pub is_break : ℕ → Bool
 is_break byte = byte == 32 || byte == 10
@@ -33,21 +27,10 @@ first_word bytes = before_first is_break bytes
 unfoldable pub other_words : List ℕ → List ℕ
 other_words bytes = after_first is_break bytes
 
--- the number with one more digit, below 2 ^ 32
-unfoldable pub with_digit : ℕ → ℕ → Option ℕ
-with_digit number byte = if is_ascii_digit byte && nat_lt (number * 10 + (byte - 48)) (2 ^ 32) then Some (number * 10 + (byte - 48)) else None
-
-unfoldable pub number_after : ℕ → List ℕ → Option ℕ
-number_after number [] = Some number
-number_after number (byte ∷ bytes) = with_digit number byte >>= λ more. number_after more bytes
-
-unfoldable pub number_of : List ℕ → Option ℕ
-number_of word = number_after 0 word
-
 -- a number of one byte
 unfoldable pub byte_of : List ℕ → Option ℕ
 byte_of word = do
-  number ← number_of word
+  number ← number_in word
   if nat_lt number 256 then Some number else None
 
 unfoldable pub flag_of : List ℕ → Option Bool
@@ -113,7 +96,7 @@ answer_in bytes = if bytes_eq (first_word bytes) (codes "ACK") then Some answer.
 -- the word between act and answer is passed over
 unfoldable pub line_in : List ℕ → Option Line
 line_in bytes = do
-  tick ← number_of (first_word bytes)
+  tick ← number_in (first_word bytes)
   side ← side_of (first_word (other_words bytes))
   act ← act_at (other_words (other_words bytes))
   answer ← answer_in (other_words act.1)

@@ -4,8 +4,8 @@ ghost use Rattle.port_transcript.specs.PortLine.{IsLine, line_text};
 ghost use Rattle.port_transcript.specs.Reading.{act_at, answer_in, data_in, in_at, line_in, out_at, setup_at};
 
 use crate::port::port_line;
-use crate::words::{byte_of, flag_of, number_of, packet_of, setup_in, side_of, split_word};
-use psd_base::{Act, Answer, Line};
+use crate::words::{byte_of, flag_of, packet_of, setup_in, side_of, split_word};
+use psd_base::{Act, Answer, Line, number_in};
 
 #[cfg(test)]
 mod tests;
@@ -41,7 +41,7 @@ fn line_in(bytes: &[u8]) -> Option<Line>
 {
     let (tick, rest) = split_word(bytes);
     let (side, rest) = split_word(rest);
-    let tick = number_of(tick)?;
+    let tick = number_in(tick)?;
     let side = side_of(side)?;
     let (act, rest) = act_at(rest)?;
     let (_, rest) = split_word(rest);

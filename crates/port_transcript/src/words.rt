@@ -3,10 +3,10 @@
 //! A word ends before a blank or a line feed. These readers may take more than the texts of lines, as leading zeros
 //! and upper-case digits: the reader of lines refuses these.
 ghost use Rattle.std.specs.Prelude.{◌≡◌, position};
-ghost use Rattle.port_transcript.specs.Reading.{byte_of, first_word, flag_of, is_break, number_after, number_of, other_words, packet_of, setup_in, side_of, with_digit};
+ghost use Rattle.port_transcript.specs.Reading.{byte_of, first_word, flag_of, is_break, other_words, packet_of, setup_in, side_of};
 
 use hex::FromHex;
-use psd_base::{PACKET_SIZE, Packet, Setup, Side};
+use psd_base::{PACKET_SIZE, Packet, Setup, Side, number_in};
 
 /// The first word, and the bytes behind it and the byte that ends it.
 #[tactic(auto, unfolding(crate::specs::Reading::first_word, crate::specs::Reading::other_words))]
@@ -29,36 +29,12 @@ fn word_end(bytes: &[u8]) -> Option<usize>
         .position(|byte| *byte == b' ' || *byte == b'\n')
 }
 
-/// The number with one more decimal digit.
-#[tactic(auto, unfolding(crate::specs::Reading::with_digit))]
-fn with_digit(number: u32, byte: u8) -> Option<u32>
-    ensures { result ≡ with_digit number byte }
-{
-    if byte.is_ascii_digit() {
-        number.checked_mul(10)?.checked_add(u32::from(byte - b'0'))
-    } else {
-        None
-    }
-}
-
-/// The number that decimal digits say.
-#[tactic(auto, unfolding(crate::specs::Reading::number_of, crate::specs::Reading::number_after))]
-pub(crate) fn number_of(word: &[u8]) -> Option<u32>
-    ensures { result ≡ number_of word.now }
-{
-    let mut number = 0;
-    'digits: for byte in word {
-        number = with_digit(number, *byte)?;
-    }
-    Some(number)
-}
-
 /// The number of one byte that decimal digits say.
 #[tactic(auto, unfolding(crate::specs::Reading::byte_of))]
 pub(crate) fn byte_of(word: &[u8]) -> Option<u8>
     ensures { result ≡ byte_of word.now }
 {
-    let number = number_of(word)?;
+    let number = number_in(word)?;
     if number < 256 {
         Some(number as u8)
     } else {

@@ -7,6 +7,7 @@ pub mod KeySet
 pub mod MemoryDesk
 pub mod Places
 pub mod Port
+pub mod Reading
 pub mod Setup
 pub mod Sink
 pub mod Stop

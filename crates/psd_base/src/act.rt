@@ -52,32 +52,51 @@ impl Act {
     pub fn duplicate(&self) -> Act
         ensures { result ≡ self.now }
     {
+        let mut copy = Act::Reset;
+        self.copy_to(&mut copy);
+        copy
+    }
+
+    /// Writes the same act to a place, over what was there. It costs less than an act by value, which has room for a
+    /// packet.
+    pub fn copy_to(&self, place: &mut Act)
+        ensures { place.new ≡ self.now }
+    {
         match self {
-            Act::Reset => Act::Reset,
-            Act::Setup { address, setup } => Act::Setup {
-                address: *address,
-                setup: *setup,
-            },
+            Act::Reset => *place = Act::Reset,
+            Act::Setup { address, setup } => {
+                *place = Act::Setup {
+                    address: *address,
+                    setup: *setup,
+                }
+            }
             Act::Out {
                 address,
                 endpoint,
                 toggle,
                 bytes,
-            } => Act::Out {
-                address: *address,
-                endpoint: *endpoint,
-                toggle: *toggle,
-                bytes: bytes.duplicate(),
-            },
+            } => {
+                *place = Act::Out {
+                    address: *address,
+                    endpoint: *endpoint,
+                    toggle: *toggle,
+                    bytes: Packet::new(),
+                };
+                if let Act::Out { bytes: copy, .. } = place {
+                    copy.append(bytes.as_slice());
+                }
+            }
             Act::In {
                 address,
                 endpoint,
                 acked,
-            } => Act::In {
-                address: *address,
-                endpoint: *endpoint,
-                acked: *acked,
-            },
+            } => {
+                *place = Act::In {
+                    address: *address,
+                    endpoint: *endpoint,
+                    acked: *acked,
+                }
+            }
         }
     }
 }

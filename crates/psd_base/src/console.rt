@@ -2,6 +2,7 @@
 use crate::packet::{Block, Packet};
 use crate::port::PortId;
 use crate::setup::Setup;
+use arrayvec::ArrayVec;
 
 /// A place for a peripheral at the console.
 #[derive(Clone, Copy, Debug, PartialEq, Eq)]
@@ -71,8 +72,9 @@ pub enum Order {
 }
 
 /// What the log says.
-#[derive(Clone, Copy, Debug, PartialEq, Eq)]
+#[derive(Clone, Copy, Debug, Default, PartialEq, Eq)]
 pub enum Note {
+    #[default]
     Alive,
     Dark(Reason),
     Leave(PortId),
@@ -95,12 +97,21 @@ pub enum Note {
     },
 }
 
+/// How many notes one event gives at most.
+pub const NOTES_MAX: usize = 12;
+
+/// The notes of one event, in the order in which the log has them.
+pub type Notes = ArrayVec<Note, NOTES_MAX>;
+
+/// The number of checks of the self-test. They are numbered from 1.
+pub const CHECKS: u8 = 4;
+
 /// An event of the button panel or of the self-test; the truth value is down, or passed.
 #[derive(Clone, Copy, Debug, PartialEq, Eq)]
 pub enum Panel {
     Guard(bool),
     Button(PortId, bool),
-    /// The self-test's check of this number, 1 to 4, passed or failed.
+    /// The self-test's check of this number, 1 to `CHECKS`, passed or failed.
     Check(u8, bool),
     Tamper,
 }

@@ -1,5 +1,6 @@
 //! What happens at the switch, one event at a time.
 use crate::act::{Act, Side};
+use crate::console::Panel;
 use crate::port::PortId;
 
 /// A time in ticks. One tick is a millisecond.
@@ -22,4 +23,6 @@ pub enum What {
     Clock,
     /// A computer acts at one of its connectors.
     Port(PortId, Side, Act),
+    /// A button moves, a check of the self-test ends, or the case is opened.
+    Panel(Panel),
 }

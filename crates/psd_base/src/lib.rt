@@ -11,6 +11,7 @@ pub mod file_desk;
 pub mod key_set;
 pub mod line;
 pub mod memory_desk;
+pub mod number;
 pub mod outlet;
 pub mod packet;
 mod places;
@@ -26,13 +27,16 @@ mod tape;
 pub mod words;
 
 pub use act::{Act, Answer, Side};
-pub use console::{Job, JobKind, Note, Order, Panel, Plug, Reason, RuleName};
+pub use console::{
+    CHECKS, Job, JobKind, NOTES_MAX, Note, Notes, Order, Panel, Plug, Reason, RuleName,
+};
 pub use desk::{Desk, DeskFailed};
 pub use event::{EVENTS_MAX, Event, Tick, What};
 pub use file_desk::FileDesk;
 pub use key_set::KeySet;
 pub use line::Line;
 pub use memory_desk::MemoryDesk;
+pub use number::number_in;
 pub use outlet::{Input, Outlet};
 pub use packet::{BLOCK_SIZE, Block, Bytes, PACKET_SIZE, Packet};
 pub use port::{MAX_PORTS, PortId};

@@ -1,1 +1,4 @@
-pub mod PortLists
+pub mod Choices
+pub mod Fronts
+pub mod Ports
+pub mod Views

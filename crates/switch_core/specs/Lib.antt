@@ -1,5 +1,9 @@
+pub mod Chosen
+pub mod FrontStands
 pub mod KmDescriptors
+pub mod Moments
+pub mod Notes
 pub mod OnePort
-pub mod PortStands
+pub mod SlotStands
 pub mod StandsFor
 pub mod View

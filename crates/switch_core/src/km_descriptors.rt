@@ -73,6 +73,8 @@ impl Function for KmDescriptors {
 
     ghost short_class = { λ _ taken. absurd (false≢true taken) };
 
+    ghost refuses_class = { λ _ _ _ _ _. refl };
+
     ghost keeps_descriptors = { λ _ _ _ _ _. refl };
 
     #[tactic(auto, unfolding(crate::specs::KmDescriptors::km_descriptor))]

@@ -1,11 +1,15 @@
-//! The switch: one emulated keyboard and mouse for each computer, and the step that serves one event.
+//! The switch: one emulated keyboard and mouse for each computer, self-test and selection, and the step that serves one event.
 #![tactic(auto)]
 
+pub mod front;
+pub mod health_change;
 pub mod km_descriptors;
 pub mod port;
+pub mod slot;
 pub mod switch;
 pub mod turn;
 
 pub use km_descriptors::KmDescriptors;
+pub use port::{Dark, Live, Port};
 pub use switch::Switch;
 pub use turn::Turn;

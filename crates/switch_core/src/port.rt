@@ -2,55 +2,97 @@
 ghost use Rattle.std.specs.Prelude.{◌≡◌, List, [], ◌∷◌};
 ghost use Rattle.control_pipe.specs.Control.{ControlAct, is_control_act};
 ghost use Rattle.control_pipe.specs.PipeStands.{PipeStands};
-ghost use Rattle.switch_core.specs.View.{Item, Own, woken_view};
+ghost use Rattle.switch_core.specs.View.{Item, Own};
 ghost use Rattle.switch_core.specs.OnePort.{answer_to, interrupt_answer, has_interrupt_endpoint, km_answer, with_km_act};
 
 use crate::km_descriptors::KmDescriptors;
 use control_pipe::pipe::Pipe;
 use psd_base::act::{Act, Answer, Side};
 use psd_base::event::Tick;
+use psd_base::port::PortId;
 
-/// The two connectors of one computer. Nothing in it belongs to another.
+/// A port of a switch that is not alive. It has no call that answers.
+#[derive(Clone, Copy, Debug, PartialEq, Eq)]
+pub struct Dark;
+
+/// The emulated keyboard and mouse of a port that is alive.
 #[derive(Drop)]
-pub struct Port {
+pub struct Live {
     pipe: Pipe<KmDescriptors>,
 }
 
-impl Port {
-    ghost use Rattle.switch_core.specs.PortStands.{PortStands};
+/// The two connectors of one computer. Nothing in it belongs to another.
+#[derive(Drop)]
+pub struct Port<S> {
+    id: PortId,
+    state: S,
+}
 
-    /// A port that just woke: unaddressed and not configured.
-    pub fn new() -> Port
-        ensures { PortStands result woken_view }
+impl<S> Port<S> {
+    /// The number of the port.
+    pub fn id(&self) -> PortId
+        ensures { result ≡ self.now.id }
     {
-        Port {
-            pipe: Pipe::new(KmDescriptors),
-        }
+        self.id
+    }
+}
+
+impl Port<Dark> {
+    /// A dark port of this number.
+    pub fn new(id: PortId) -> Port<Dark>
+        ensures { result.id ≡ id }
+    {
+        Port { id, state: Dark }
     }
 
-    #[inline(never)]
-    /// Answers one act of the port's computer.
-    pub fn answer(&mut self, tick: Tick, side: Side, act: &Act) -> Answer
-        ensures stands { (past : List Item) → PortStands self.old past
-            → PortStands self.new (record { tick = tick; concern = Own side act.now } ∷ past) }
-        ensures answer { (past : List Item) → PortStands self.old past → result ≡ answer_to past side act.now }
+    /// The port awake: unaddressed and not configured.
+    pub fn wake(self) -> Port<Live>
+        ensures id { result.id ≡ self.id }
+        ensures fresh { PipeStands result.state.pipe [] }
+    {
+        let Port { id, state: _ } = self;
+        Port {
+            id,
+            state: Live {
+                pipe: Pipe::new(KmDescriptors),
+            },
+        }
+    }
+}
+
+impl Port<Live> {
+    ghost use Rattle.switch_core.specs.SlotStands.{LiveStands};
+
+    /// The port dark. What its computer did is forgotten.
+    pub fn darken(self) -> Port<Dark>
+        ensures { result.id ≡ self.id }
+    {
+        Port::new(self.id)
+    }
+
+    /// Answers one act of the port's computer, in the place that the caller has for it: a copy of an answer costs a
+    /// tenth of serving it.
+    pub fn answer(&mut self, tick: Tick, side: Side, act: &Act, answer: &mut Answer)
+        ensures stands { (past : List Item) → LiveStands self.old past
+            → LiveStands self.new (record { tick = tick; concern = Own side act.now } ∷ past) }
+        ensures answer { (past : List Item) → LiveStands self.old past → answer.new ≡ answer_to past side act.now }
     {
         match side {
-            Side::Km => km_answer_to(&mut self.pipe, tick, act),
-            Side::Ua => Answer::Silent,
+            Side::Km => answer_km(&mut self.state.pipe, tick, act, answer),
+            Side::Ua => *answer = Answer::Silent,
         }
     }
 }
 
 /// Answers one act at the keyboard and mouse.
-fn km_answer_to(pipe: &mut Pipe<KmDescriptors>, tick: Tick, act: &Act) -> Answer
+fn answer_km(pipe: &mut Pipe<KmDescriptors>, tick: Tick, act: &Act, answer: &mut Answer)
     ensures stands { (acts : List ControlAct) → PipeStands pipe.old acts → PipeStands pipe.new (with_km_act act.now acts) }
-    ensures answer { (acts : List ControlAct) → PipeStands pipe.old acts → result ≡ km_answer acts act.now }
+    ensures answer { (acts : List ControlAct) → PipeStands pipe.old acts → answer.new ≡ km_answer acts act.now }
 {
     if is_at_control_endpoint(act) {
-        pipe.act(tick, act).answer
+        let _ = pipe.answer(tick, act, answer);
     } else {
-        interrupt_answer_to(pipe, act)
+        answer_interrupt(pipe, act, answer);
     }
 }
 
@@ -67,24 +109,24 @@ fn is_at_control_endpoint(act: &Act) -> bool
 }
 
 /// Answers a transaction at another endpoint than 0. The keyboard's and the mouse's endpoint have nothing due.
-fn interrupt_answer_to(pipe: &Pipe<KmDescriptors>, act: &Act) -> Answer
-    ensures { (acts : List ControlAct) → PipeStands pipe.now acts → result ≡ interrupt_answer acts act.now }
+fn answer_interrupt(pipe: &Pipe<KmDescriptors>, act: &Act, answer: &mut Answer)
+    ensures { (acts : List ControlAct) → PipeStands pipe.now acts → answer.new ≡ interrupt_answer acts act.now }
 {
     match act {
-        Act::Reset => Answer::Silent,
-        Act::Setup { .. } => Answer::Silent,
-        Act::Out { .. } => Answer::Silent,
+        Act::Reset => *answer = Answer::Silent,
+        Act::Setup { .. } => *answer = Answer::Silent,
+        Act::Out { .. } => *answer = Answer::Silent,
         Act::In {
             address,
             endpoint,
             ..
         } => {
             if *address != pipe.address() || !has_endpoint(pipe, *endpoint) {
-                Answer::Silent
+                *answer = Answer::Silent;
             } else if pipe.halted(*endpoint) {
-                Answer::Stall
+                *answer = Answer::Stall;
             } else {
-                Answer::Nak
+                *answer = Answer::Nak;
             }
         }
     }

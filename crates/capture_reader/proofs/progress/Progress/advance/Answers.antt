@@ -1,46 +1,99 @@
 -- What a step leaves, and why it stops.
-use Rattle.std.proofs.Common.{inr, refl, ◌∙◌}
+use Rattle.std.proofs.Common.{inr, refl, ap, ◌∙◌}
 use Rattle.std.proofs.lemmas.Result.{IfErr-weaker}
 use Rattle.psd_base.specs.declared.outlet.Input.TheVariants as inputs
-use Rattle.capture_reader.proofs.Upcoming.{nothing_waits, stops_because, ended, too_long, not_ok_true}
+use Rattle.capture_reader.specs.Progress.{reading}
+use Rattle.capture_reader.specs.Reader.{rest}
+use Rattle.capture_reader.proofs.Upcoming.{capture_stops, script_stops, ended, too_long, not_ok_true, record_lines, lines_still}
 use Rattle.capture_reader.proofs.progress.Progress.advance.Goals as goal
-
-pub returns-in-Waiting-clause-at_end : goal.returns-in-Waiting-clause-at_end
-returns-in-Waiting-clause-at_end g c at_end =
-    let end = c.give.ensures.none (nothing_waits c.args.self.now c.in-Waiting.is at_end.nothing_ahead) in
-    (end.0, end.1, refl)
-
-pub returns-in-Waiting-clause-rest : goal.returns-in-Waiting-clause-rest
-returns-in-Waiting-clause-rest g c none = c.give.ensures.rest none _
-
-pub returns-in-Ok-clause-rest : goal.returns-in-Ok-clause-rest
-returns-in-Ok-clause-rest g c none = c.give-in-Ok.ensures.rest none _ ∙ c.look_on.ensures.rest
-
-pub returns-in-Err-clause-cause : goal.returns-in-Err-clause-cause
-returns-in-Err-clause-cause g c =
-    inr (stops_because c.look_on.new.self _ (g.D.Desk.left c.look_on.new.desk inputs.Capture) _ _ c.in-Err.stop c.in-Err.ensures.err.1 c.look_on.ensures.rest c.in-Err.ensures.err.2)
 
 pub returns-in-Waiting-clause-end : goal.returns-in-Waiting-clause-end
 returns-in-Waiting-clause-end g c is =
-    let left = g.D.Desk.left c.args.desk.now inputs.Capture in
+    let capture_left = g.D.Desk.left c.args.desk.now inputs.Capture in
+    let script_left = g.D.Desk.left c.args.desk.now inputs.Script in
     let end = c.give.ensures.end is in
-    ended c.give.new.self c.args.self.now _ left end.0 c.in-Waiting.is end.1 end.2 (c.give.ensures.rest (not_ok_true c.give.result is) left)
+    ended c.give.new.self c.args.self.now _ capture_left script_left end.0 c.in-Waiting.is end.1 end.2 end.3 (c.give.ensures.rest (not_ok_true c.give.result is) capture_left script_left)
 
 pub returns-in-Waiting-clause-cause : goal.returns-in-Waiting-clause-cause
 returns-in-Waiting-clause-cause g c =
-    let left = g.D.Desk.left c.args.desk.now inputs.Capture in
-    IfErr-weaker c.give.result _ _ (λ stop is. inr (too_long c.give.new.self c.args.self.now _ left _ _ stop is.0 is.1 c.in-Waiting.is is.3 is.2 refl)) c.give.ensures.stop
+    let capture_left = g.D.Desk.left c.args.desk.now inputs.Capture in
+    let script_left = g.D.Desk.left c.args.desk.now inputs.Script in
+    let before = rest (reading c.args.self.now) capture_left script_left in
+    let reads = g.D.Desk.read_faults c.args.desk.now in
+    IfErr-weaker c.give.result _ _
+    (λ stop is. inr (too_long c.give.new.self c.args.self.now before capture_left script_left reads reads stop is.0 is.1 c.in-Waiting.is is.3 is.2 refl)) c.give.ensures.stop
 
 pub returns-in-Ok-clause-end : goal.returns-in-Ok-clause-end
 returns-in-Ok-clause-end g c is =
-    let left = g.D.Desk.left c.look_on.new.desk inputs.Capture in
+    let now = c.args.self.now in
+    let capture_left = g.D.Desk.left c.look_at_record.new.desk inputs.Capture in
+    let script_left = g.D.Desk.left c.look_at_record.new.desk inputs.Script in
+    let looked = c.look_at_record.ensures.rest script_left
+    ∙ ap (rest (reading now) (g.D.Desk.left c.args.desk.now inputs.Capture)) (c.look_at_record.ensures.only.other_inputs inputs.Script (λ same. cc)) in
     let end = c.give-in-Ok.ensures.end is in
-    ended c.give-in-Ok.new.self c.look_on.new.self _ left end.0 c.in-Ok.ensures.ok end.1 end.2
-    (c.give-in-Ok.ensures.rest (not_ok_true c.give-in-Ok.result is) left ∙ c.look_on.ensures.rest)
+    ended c.give-in-Ok.new.self c.look_at_record.new.self _ capture_left script_left end.0 c.in-Ok.ensures.ok end.1 end.2 end.3
+    (c.give-in-Ok.ensures.rest (not_ok_true c.give-in-Ok.result is) capture_left script_left ∙ looked)
 
 pub returns-in-Ok-clause-cause : goal.returns-in-Ok-clause-cause
 returns-in-Ok-clause-cause g c =
-    let left = g.D.Desk.left c.look_on.new.desk inputs.Capture in
+    let now = c.args.self.now in
+    let capture_left = g.D.Desk.left c.look_at_record.new.desk inputs.Capture in
+    let script_left = g.D.Desk.left c.look_at_record.new.desk inputs.Script in
+    let looked = c.look_at_record.ensures.rest script_left
+    ∙ ap (rest (reading now) (g.D.Desk.left c.args.desk.now inputs.Capture)) (c.look_at_record.ensures.only.other_inputs inputs.Script (λ same. cc)) in
+    let before = rest (reading now) (g.D.Desk.left c.args.desk.now inputs.Capture) (g.D.Desk.left c.args.desk.now inputs.Script) in
     IfErr-weaker c.give-in-Ok.result _ _
-    (λ stop is. inr (too_long c.give-in-Ok.new.self c.look_on.new.self _ left _ _ stop is.0 is.1 c.in-Ok.ensures.ok is.3 is.2 c.look_on.ensures.rest))
+    (λ stop is. inr (too_long c.give-in-Ok.new.self c.look_at_record.new.self before capture_left script_left (g.D.Desk.read_faults c.args.desk.now) (g.D.Desk.read_faults c.look_at_record.new.desk) stop
+    is.0 is.1 c.in-Ok.ensures.ok is.3 is.2 looked))
     c.give-in-Ok.ensures.stop
+
+pub returns-in-Err-clause-cause : goal.returns-in-Err-clause-cause
+returns-in-Err-clause-cause g c =
+    let now = c.args.self.now in
+    let new = c.look_at_record.new.self in
+    let capture_left = g.D.Desk.left c.look_at_record.new.desk inputs.Capture in
+    let script_left = g.D.Desk.left c.look_at_record.new.desk inputs.Script in
+    let looked = c.look_at_record.ensures.rest script_left
+    ∙ ap (rest (reading now) (g.D.Desk.left c.args.desk.now inputs.Capture)) (c.look_at_record.ensures.only.other_inputs inputs.Script (λ same. cc)) in
+    let before = rest (reading now) (g.D.Desk.left c.args.desk.now inputs.Capture) (g.D.Desk.left c.args.desk.now inputs.Script) in
+    let counts = c.look_at_record.ensures.counts in
+    let failed = c.in-Err.ensures.err in
+    inr (capture_stops new before capture_left script_left (g.D.Desk.read_faults c.args.desk.now) (g.D.Desk.read_faults c.look_at_record.new.desk) c.in-Err.stop c.in-Err.stop
+    failed.0 failed.1 (lines_still now new counts.4 counts.3 (record_lines now c.requires.sound c.in-GivenRecord.is)) looked failed.2)
+
+pub returns-in-Ok-look_at_line-clause-end : goal.returns-in-Ok-look_at_line-clause-end
+returns-in-Ok-look_at_line-clause-end g c is =
+    let now = c.args.self.now in
+    let capture_left = g.D.Desk.left c.look_at_line.new.desk inputs.Capture in
+    let script_left = g.D.Desk.left c.look_at_line.new.desk inputs.Script in
+    let looked = c.look_at_line.ensures.rest capture_left
+    ∙ ap (λ left. rest (reading now) left (g.D.Desk.left c.args.desk.now inputs.Script)) (c.look_at_line.ensures.only.other_inputs inputs.Capture (λ same. cc)) in
+    let end = c.give-in-Ok-look_at_line.ensures.end is in
+    ended c.give-in-Ok-look_at_line.new.self c.look_at_line.new.self _ capture_left script_left end.0 c.in-Ok-look_at_line.ensures.ok end.1 end.2 end.3
+    (c.give-in-Ok-look_at_line.ensures.rest (not_ok_true c.give-in-Ok-look_at_line.result is) capture_left script_left ∙ looked)
+
+pub returns-in-Ok-look_at_line-clause-cause : goal.returns-in-Ok-look_at_line-clause-cause
+returns-in-Ok-look_at_line-clause-cause g c =
+    let now = c.args.self.now in
+    let capture_left = g.D.Desk.left c.look_at_line.new.desk inputs.Capture in
+    let script_left = g.D.Desk.left c.look_at_line.new.desk inputs.Script in
+    let looked = c.look_at_line.ensures.rest capture_left
+    ∙ ap (λ left. rest (reading now) left (g.D.Desk.left c.args.desk.now inputs.Script)) (c.look_at_line.ensures.only.other_inputs inputs.Capture (λ same. cc)) in
+    let before = rest (reading now) (g.D.Desk.left c.args.desk.now inputs.Capture) (g.D.Desk.left c.args.desk.now inputs.Script) in
+    IfErr-weaker c.give-in-Ok-look_at_line.result _ _
+    (λ stop is. inr (too_long c.give-in-Ok-look_at_line.new.self c.look_at_line.new.self before capture_left script_left (g.D.Desk.read_faults c.args.desk.now) (g.D.Desk.read_faults c.look_at_line.new.desk) stop
+    is.0 is.1 c.in-Ok-look_at_line.ensures.ok is.3 is.2 looked))
+    c.give-in-Ok-look_at_line.ensures.stop
+
+pub returns-in-Err-look_at_line-clause-cause : goal.returns-in-Err-look_at_line-clause-cause
+returns-in-Err-look_at_line-clause-cause g c =
+    let now = c.args.self.now in
+    let new = c.look_at_line.new.self in
+    let capture_left = g.D.Desk.left c.look_at_line.new.desk inputs.Capture in
+    let script_left = g.D.Desk.left c.look_at_line.new.desk inputs.Script in
+    let looked = c.look_at_line.ensures.rest capture_left
+    ∙ ap (λ left. rest (reading now) left (g.D.Desk.left c.args.desk.now inputs.Script)) (c.look_at_line.ensures.only.other_inputs inputs.Capture (λ same. cc)) in
+    let before = rest (reading now) (g.D.Desk.left c.args.desk.now inputs.Capture) (g.D.Desk.left c.args.desk.now inputs.Script) in
+    let failed = c.in-Err-look_at_line.ensures.err in
+    inr (script_stops new before capture_left script_left (g.D.Desk.read_faults c.args.desk.now) (g.D.Desk.read_faults c.look_at_line.new.desk) c.in-Err-look_at_line.stop c.in-Err-look_at_line.stop
+    failed.0 failed.1 c.look_at_line.ensures.sound.same_ports looked failed.2)

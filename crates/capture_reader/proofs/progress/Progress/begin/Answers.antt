@@ -1,35 +1,64 @@
 -- What is to come at the beginning is the schedule of the bytes that were left.
-use Rattle.std.proofs.Common.{◌≢◌, ℕ, Option, Some, option_map, IfErr, OnOk, ◌∙◌, ap, sym, subst}
+use Rattle.std.proofs.Common.{◌≡◌, Option, option_map, IfErr, OnOk, ◌∙◌, ap, sym, subst}
 use Rattle.std.proofs.lemmas.Result.{IfOk-weaker, IfErr-weaker}
 use Rattle.psd_base.specs.declared.outlet.Input.TheVariants as inputs
-use Rattle.psd_base.specs.declared.stop.CaptureFault.{CaptureFault}
-use Rattle.psd_base.specs.declared.stop.Stop.TheVariants as stops
-use Rattle.capture_reader.specs.Reader.{NewFailed}
-use Rattle.capture_reader.specs.Schedule.{Schedule, over, cut_recording}
-use Rattle.capture_reader.proofs.FirstLook.{schedules, port_count_told, open_is_new, failed_since}
+use Rattle.capture_reader.specs.declared.script.ScriptSource.{ScriptSource}
+use Rattle.capture_reader.specs.Lines.{later_lines, later_lines_of}
+use Rattle.capture_reader.specs.Reader.{IsLooked, NewFailed}
+use Rattle.capture_reader.specs.Schedule.{Schedule, merged, schedule_told}
+use Rattle.capture_reader.specs.Script.{script}
+use Rattle.capture_reader.specs.Source.{later, later_of}
+use Rattle.capture_reader.specs.Window.{Held}
+use Rattle.capture_reader.proofs.FirstLook.{schedules, unread_script, port_count_told, open_is_new, failed_since}
 use Rattle.capture_reader.proofs.progress.Progress.begin.Goals as goal
+use Rattle.capture_reader.proofs.progress.Progress.begin.Goals.{After-first_line}
+use Rattle.capture_reader.proofs.progress.Progress.begin.Given as given
+
+-- what was to come before the first looks
+before_looks : (g : given.Over) (c : After-first_line g)
+    → merged c.args.limit (later_of c.in-Ok.capture (g.D.Desk.left c.open.new.desk inputs.Capture)) (later_lines_of c.new-script.result (g.D.Desk.left c.open.new.desk inputs.Script))
+    ≡ schedule_told c.args.limit (g.D.Desk.left c.args.desk.now inputs.Capture) (g.D.Desk.left c.args.desk.now inputs.Script)
+before_looks g c =
+    let capture = c.in-Ok.capture in
+    let limit = c.args.limit in
+    let left = g.D.Desk.left c.args.desk.now in
+    let opened = g.D.Desk.left c.open.new.desk in
+    let begin = c.in-Ok.ensures.begin in
+    let lines = ap (λ (source : ScriptSource). later_lines_of source (opened inputs.Script)) c.new-script.ensures
+    ∙ ap (λ (window : Held). later_lines capture.ports 0 1 window (opened inputs.Script)) c.requires.script
+    ∙ unread_script capture.ports (opened inputs.Script)
+    ∙ ap (option_map (script capture.ports)) (c.open.ensures.only.other_inputs inputs.Script (λ same. cc)) in
+    let records = ap (λ n. later capture.ports n capture.offset capture.window (opened inputs.Capture)) begin.0
+    ∙ ap (λ n. later capture.ports 0 n capture.window (opened inputs.Capture)) begin.1
+    ∙ sym c.in-Ok.ensures.records in
+    ap (λ told. merged limit told (later_lines_of c.new-script.result (opened inputs.Script))) records
+    ∙ ap (merged limit _) lines
+    ∙ schedules limit capture.ports (left inputs.Capture) (left inputs.Script) c.in-Ok.ensures.header
 
 pub returns-in-Ok-clause-ports : goal.returns-in-Ok-clause-ports
 returns-in-Ok-clause-ports g c =
-    IfOk-weaker c.first_look.result _ _ (λ progress is. port_count_told (g.D.Desk.left c.args.desk.now inputs.Capture) c.in-Ok.capture.ports progress.capture.ports is.3 c.in-Ok.ensures.header) c.first_look.ensures.counts
+    IfOk-weaker c.first_line.result _ _
+    (λ progress is. port_count_told (g.D.Desk.left c.args.desk.now inputs.Capture) c.in-Ok.capture.ports progress.capture.ports is.4 c.in-Ok.ensures.header) c.first_line.ensures.counts
 
 pub returns-in-Ok-clause-rest : goal.returns-in-Ok-clause-rest
 returns-in-Ok-clause-rest g c =
-    let same = ap (option_map (cut_recording c.args.limit)) (sym c.in-Ok.ensures.records) ∙ schedules c.args.limit (g.D.Desk.left c.args.desk.now inputs.Capture) in
-    IfOk-weaker c.first_look.result _ _ (λ progress is. is ∙ same) c.first_look.ensures.rest
+    let same = before_looks g (goal.at.returns-in-Ok-clause-rest g c).After-first_line in
+    IfOk-weaker c.first_line.result _ _ (λ progress is. is ∙ same) c.first_line.ensures.rest
 
 pub returns-in-Ok-clause-looked : goal.returns-in-Ok-clause-looked
 returns-in-Ok-clause-looked g c =
-    let same = ap (option_map (cut_recording c.args.limit)) (sym c.in-Ok.ensures.records) ∙ schedules c.args.limit (g.D.Desk.left c.args.desk.now inputs.Capture) in
-    subst (λ (before : Option Schedule). OnOk c.first_look.result ((offset : ℕ) (why : CaptureFault) → before ≢ Some (over (Some (stops.Capture offset why))))) same c.first_look.ensures.looked
+    let same = before_looks g (goal.at.returns-in-Ok-clause-looked g c).After-first_line in
+    subst (λ (before : Option Schedule). OnOk c.first_line.result (IsLooked before)) same c.first_line.ensures.looked
 
 pub returns-in-Ok-clause-err : goal.returns-in-Ok-clause-err
 returns-in-Ok-clause-err g c =
-    let same = ap (option_map (cut_recording c.args.limit)) (sym c.in-Ok.ensures.records) ∙ schedules c.args.limit (g.D.Desk.left c.args.desk.now inputs.Capture) in
-    let faults = g.D.Desk.read_faults c.open.new.desk inputs.Capture in
-    let faults_after = g.D.Desk.read_faults c.first_look.new.desk inputs.Capture in
-    IfErr-weaker c.first_look.result _ _ (λ stop failed. failed_since _ (g.D.Desk.read_faults c.args.desk.now inputs.Capture) faults faults_after stop (c.open.ensures.only.read_counts inputs.Capture) failed)
-    (subst (λ (before : Option Schedule). IfErr c.first_look.result (NewFailed before faults faults_after ⊥)) same c.first_look.ensures.err)
+    let same = before_looks g (goal.at.returns-in-Ok-clause-err g c).After-first_line in
+    let reads = g.D.Desk.read_faults c.open.new.desk in
+    let reads_after = g.D.Desk.read_faults c.first_line.new.desk in
+    IfErr-weaker c.first_line.result _ _ (λ stop failed. failed_since _ (g.D.Desk.read_faults c.args.desk.now) reads reads_after stop c.open.ensures.only.read_counts failed)
+    (subst (λ (before : Option Schedule). IfErr c.first_line.result (NewFailed before reads reads_after ⊥)) same c.first_line.ensures.err)
 
 pub returns-in-Err-clause-err : goal.returns-in-Err-clause-err
-returns-in-Err-clause-err g c = open_is_new c.args.limit _ _ (g.D.Desk.left c.args.desk.now inputs.Capture) c.in-Err.stop c.in-Err.ensures.err
+returns-in-Err-clause-err g c =
+    let left = g.D.Desk.left c.args.desk.now in
+    open_is_new c.args.limit (left inputs.Capture) (left inputs.Script) (g.D.Desk.read_faults c.args.desk.now) (g.D.Desk.read_faults c.open.new.desk) c.in-Err.stop c.in-Err.ensures.err

@@ -1,35 +1,47 @@
--- The event that was read ahead is given, or there is none, or it is one too many.
-use Rattle.std.proofs.Common.{◌≡◌, ◌+◌, ◌<◌, None, option_map, IsSome, IsSomeAnd, refl, sym, ap, not, ◌∙◌, subst, arith}
-use Rattle.psd_base.specs.declared.stop.Stop.TheVariants.{TooLong}
-use Rattle.psd_base.specs.Event.{seen}
-use Rattle.capture_reader.specs.declared.progress.State.{State}
-use Rattle.capture_reader.specs.declared.progress.State.TheVariants.{Given}
-use Rattle.capture_reader.specs.Progress.{reading}
-use Rattle.capture_reader.specs.Reader.{rest}
-use Rattle.capture_reader.specs.Schedule.{in_front}
-use Rattle.capture_reader.proofs.Upcoming.{gives_next, shows_end, shows_too_long, ends_waiting, rest_stopped, nothing_there}
+-- The next of the events that were read ahead is given, or there is none, or it is one too many.
+use Rattle.std.proofs.Common.{refl, sym, ◌∙◌}
+use Rattle.std.proofs.lemmas.Result.{IfErr-weaker}
+use Rattle.capture_reader.proofs.Merging.{end_step}
+use Rattle.capture_reader.proofs.Upcoming.{only_stops, record_given, line_given, record_refused, line_refused, refused_rest, nothing_comes}
 use Rattle.capture_reader.proofs.progress.Progress.give.Goals as goal
 
-pub returns-then-is_none-clause-end : goal.returns-then-is_none-clause-end
-returns-then-is_none-clause-end c is =
+pub returns-in-Record-clause-next : goal.returns-in-Record-clause-next
+returns-in-Record-clause-next c is capture_left script_left =
     let now = c.args.self.now in
-    let none : now.capture.ahead ≡ None = nothing_there now.capture.ahead (c.is_none.ensures ∙ ap not c.if-is_none.true) in
-    (refl, none, shows_end now.capture now.limit now.served now.state None none (ends_waiting now c.requires.sound.state c.requires.waiting none))
+    let more = c.go_on.ensures.more is in
+    record_given now c.go_on.new.self now.capture.tick capture_left script_left c.requires.sound c.requires.waiting (sym c.next_source.ensures ∙ c.in-Record.is) more.0 more.1
 
-pub returns-then-self-clause-stop : goal.returns-then-self-clause-stop
-returns-then-self-clause-stop c =
+pub returns-in-Record-clause-rest : goal.returns-in-Record-clause-rest
+returns-in-Record-clause-rest c none capture_left script_left =
+    only_stops _ c.go_on.result none c.go_on.ensures.some c.go_on.ensures.full (λ stop is. refused_rest c.args.self.now c.go_on.new.self capture_left script_left c.requires.waiting is.2)
+
+pub returns-in-Record-clause-stop : goal.returns-in-Record-clause-stop
+returns-in-Record-clause-stop c =
     let now = c.args.self.now in
-    let some : IsSome now.capture.ahead = c.is_none.ensures ∙ ap not c.if-is_none.false in
-    (refl, refl, shows_too_long now.capture now.capture.ahead now.limit now.served refl some c.if-self.true, c.if-self.true)
+    IfErr-weaker c.go_on.result _ _
+    (λ stop is. (is.0, is.2, record_refused now c.go_on.new.self c.requires.sound c.requires.waiting (sym c.next_source.ensures ∙ c.in-Record.is) is.1 is.2, is.1))
+    c.go_on.ensures.full
 
-pub returns-then-self-clause-rest : goal.returns-then-self-clause-rest
-returns-then-self-clause-rest c is left = rest_stopped c.args.self.now TooLong left c.requires.waiting
-
-pub returns-clause-next : goal.returns-clause-next
-returns-clause-next c is left =
+pub returns-in-Line-clause-next : goal.returns-in-Line-clause-next
+returns-in-Line-clause-next c is capture_left script_left =
     let now = c.args.self.now in
-    let some : IsSome now.capture.ahead = c.is_none.ensures ∙ ap not c.if-is_none.false in
-    let below : now.served < now.limit = omega arith in
-    let P : State → Type 0 = λ state. IsSomeAnd (option_map seen now.capture.ahead) (λ event. rest (reading (record now { state = state })) left
-    ≡ option_map (in_front event) (rest (reading (record now { served = now.served + 1; state = Given })) left)) in
-    subst P (sym c.requires.waiting) (gives_next now.capture now.capture.ahead now.limit now.served left refl some below)
+    let more = c.go_on-in-Line.ensures.more is in
+    line_given now c.go_on-in-Line.new.self now.script.tick capture_left script_left c.requires.sound c.requires.waiting (sym c.next_source.ensures ∙ c.in-Line.is) more.0 more.1
+
+pub returns-in-Line-clause-rest : goal.returns-in-Line-clause-rest
+returns-in-Line-clause-rest c none capture_left script_left =
+    only_stops _ c.go_on-in-Line.result none c.go_on-in-Line.ensures.some c.go_on-in-Line.ensures.full
+    (λ stop is. refused_rest c.args.self.now c.go_on-in-Line.new.self capture_left script_left c.requires.waiting is.2)
+
+pub returns-in-Line-clause-stop : goal.returns-in-Line-clause-stop
+returns-in-Line-clause-stop c =
+    let now = c.args.self.now in
+    IfErr-weaker c.go_on-in-Line.result _ _
+    (λ stop is. (is.0, is.2, line_refused now c.go_on-in-Line.new.self c.requires.sound c.requires.waiting (sym c.next_source.ensures ∙ c.in-Line.is) is.1 is.2, is.1))
+    c.go_on-in-Line.ensures.full
+
+pub returns-in-End-clause-end : goal.returns-in-End-clause-end
+returns-in-End-clause-end c is =
+    let now = c.args.self.now in
+    let none = end_step now.capture.ahead now.script.ahead (sym c.next_source.ensures ∙ c.in-End.is) in
+    (refl, none.0, none.1, nothing_comes now c.requires.sound c.requires.waiting none.0 none.1)

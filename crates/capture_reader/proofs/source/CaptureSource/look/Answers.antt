@@ -1,24 +1,10 @@
 -- The next record, or none, and what comes after it.
 use Rattle.std.proofs.Common.{None, refl, ◌∙◌, sym}
-use Rattle.std.proofs.lemmas.Result.{on_ok_weaker, on_err_weaker, IfErr-weaker}
+use Rattle.std.proofs.lemmas.Result.{on_ok_weaker, IfErr-weaker}
 use Rattle.psd_base.specs.declared.outlet.Input.TheVariants as inputs
 use Rattle.capture_reader.specs.Source.{later_of}
 use Rattle.capture_reader.proofs.Ahead.{later_still, partial_short, some_and, ahead_read, nothing_ahead}
 use Rattle.capture_reader.proofs.source.CaptureSource.look.Goals as goal
-
-pub returns-in-Ok-true-clause-read : goal.returns-in-Ok-true-clause-read
-returns-in-Ok-true-clause-read g c =
-    let now = c.args.self.now in
-    let new = c.look_at_head.new.self in
-    let before = later_still now.ports now.tick now.offset now.window c.hold.new.self (g.D.Desk.left c.args.desk.now inputs.Capture) (g.D.Desk.left c.hold.new.desk inputs.Capture) c.hold.ensures.still in
-    let after = later_of new (g.D.Desk.left c.look_at_head.new.desk inputs.Capture) in
-    on_ok_weaker c.look_at_head.result (λ found. before ∙ ahead_read new.ahead _ after (some_and new.ahead (λ event is. is.1) found)) c.look_at_head.ensures.ok
-
-pub returns-in-Ok-true-clause-stays : goal.returns-in-Ok-true-clause-stays
-returns-in-Ok-true-clause-stays g c =
-    let now = c.args.self.now in
-    let before = later_still now.ports now.tick now.offset now.window c.hold.new.self (g.D.Desk.left c.args.desk.now inputs.Capture) (g.D.Desk.left c.hold.new.desk inputs.Capture) c.hold.ensures.still in
-    on_err_weaker c.look_at_head.result (λ same. same ∙ sym before) c.look_at_head.ensures.stays
 
 pub returns-in-Ok-false-clause-read : goal.returns-in-Ok-false-clause-read
 returns-in-Ok-false-clause-read g c =
@@ -32,6 +18,22 @@ returns-in-Ok-false-clause-stays g c =
     let before = later_still now.ports now.tick now.offset now.window c.hold.new.self (g.D.Desk.left c.args.desk.now inputs.Capture) (g.D.Desk.left c.hold.new.desk inputs.Capture) c.hold.ensures.still in
     IfErr-weaker c.end.result _ _ (λ stop _. sym before) (c.end.ensures.err 0 0)
 
+pub returns-in-Ok-false-clause-err : goal.returns-in-Ok-false-clause-err
+returns-in-Ok-false-clause-err g c = c.end.ensures.err (g.D.Desk.read_faults c.args.desk.now inputs.Capture) (g.D.Desk.read_faults c.hold.new.desk inputs.Capture)
+
+pub returns-in-Ok-clause-read : goal.returns-in-Ok-clause-read
+returns-in-Ok-clause-read g c =
+    let now = c.args.self.now in
+    let new = c.look_at_head.new.self in
+    let before = later_still now.ports now.tick now.offset now.window c.hold.new.self (g.D.Desk.left c.args.desk.now inputs.Capture) (g.D.Desk.left c.hold.new.desk inputs.Capture) c.hold.ensures.still in
+    before ∙ ahead_read new.ahead _ (later_of new (g.D.Desk.left c.look_at_head.new.desk inputs.Capture)) (some_and new.ahead (λ event is. is.1) c.in-Ok.ensures.ok)
+
+pub returns-in-Err-look_at_head-clause-stays : goal.returns-in-Err-look_at_head-clause-stays
+returns-in-Err-look_at_head-clause-stays g c =
+    let now = c.args.self.now in
+    let before = later_still now.ports now.tick now.offset now.window c.hold.new.self (g.D.Desk.left c.args.desk.now inputs.Capture) (g.D.Desk.left c.hold.new.desk inputs.Capture) c.hold.ensures.still in
+    c.in-Err-look_at_head.ensures.stays ∙ sym before
+
 pub returns-in-Err-clause-stays : goal.returns-in-Err-clause-stays
 returns-in-Err-clause-stays g c =
     let now = c.args.self.now in
@@ -39,6 +41,3 @@ returns-in-Err-clause-stays g c =
 
 pub returns-in-Err-clause-err : goal.returns-in-Err-clause-err
 returns-in-Err-clause-err g c = (c.in-Err.ensures.failed, partial_short _ _ _ c.hold.new.self c.in-Err.ensures.short)
-
-pub returns-in-Ok-false-clause-err : goal.returns-in-Ok-false-clause-err
-returns-in-Ok-false-clause-err g c = c.end.ensures.err (g.D.Desk.read_faults c.args.desk.now inputs.Capture) (g.D.Desk.read_faults c.hold.new.desk inputs.Capture)

@@ -24,7 +24,7 @@ returns-in-Ok-true-clause-records g c =
     let all = all_is held left left_after (c.hold.ensures.still ∙ ap (λ (window : Held). still window left) c.requires) in
     let whole = c.in-Ok-true.ensures.held (ap Ok c.in-Ok-true.field-0-test) in
     IfOk-weaker c.behind_header.result _ _
-    (λ source is. records_told held left left_after source.ports all whole is.0 ∙ ap (λ (window : Held). later source.ports 0 8 window left_after) (sym is.1))
+    (λ source is. records_told held left left_after source.ports all whole ∙ ap (λ (window : Held). later source.ports 0 8 window left_after) (sym is.1))
     c.behind_header.ensures.behind
 
 pub returns-in-Ok-true-clause-err : goal.returns-in-Ok-true-clause-err

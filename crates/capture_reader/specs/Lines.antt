@@ -1,0 +1,44 @@
+-- A script as a source of events, which is read one line ahead.
+use Rattle.std.specs.Prelude.{◌≡◌, ℕ, List, Option, Some, option_map}
+use Rattle.psd_base.specs.declared.event.Event.{Event}
+use Rattle.psd_base.specs.declared.outlet.Input.TheVariants as inputs
+use Rattle.psd_base.specs.declared.stop.Stop.{Stop}
+use Rattle.psd_base.specs.declared.stop.Stop.TheVariants as stops
+use Rattle.psd_base.specs.Desk.{Rose}
+use Rattle.psd_base.specs.Event.{HappensWithin, seen}
+use Rattle.capture_reader.specs.declared.script.ScriptSource.{ScriptSource}
+use Rattle.capture_reader.specs.Capture.{Recording, none_until}
+use Rattle.capture_reader.specs.Script.{lines}
+use Rattle.capture_reader.specs.Source.{after_ahead}
+use Rattle.capture_reader.specs.Window.{Held, HasNoLine, coming, still}
+
+-- what the lines say that are still to come, where the desk has these bytes left or doesn't tell
+unfoldable pub later_lines : ℕ → ℕ → ℕ → Held → Option (List ℕ) → Option Recording
+later_lines ports last number held left = option_map (lines ports last number 0) (still held left)
+
+abbrev pub later_lines_of : ScriptSource → Option (List ℕ) → Option Recording
+later_lines_of source left = later_lines source.ports source.tick source.line source.window left
+
+-- no line is still to come, whatever bytes the desk has left
+abbrev pub LinesEnd : ℕ → ℕ → ℕ → Held → Option Stop → Type 0
+LinesEnd ports last number held stop = (left : List ℕ) → lines ports last number 0 (coming held left) ≡ none_until stop
+
+abbrev pub LinesEndNow : ScriptSource → Option Stop → Type 0
+LinesEndNow source stop = LinesEnd source.ports source.tick source.line source.window stop
+
+-- why looking ahead failed: a fault that the bytes show, or a failed read, whose count rose, before a line was whole
+abbrev pub LineLookFailed : ℕ → ℕ → ℕ → Held → ℕ → ℕ → Stop → Type 0
+LineLookFailed ports last number held faults faults_after (stops.ReadFault inputs.Script) = Rose faults faults_after × HasNoLine held.bytes
+LineLookFailed ports last number held faults faults_after (stops.Script place why) = LinesEnd ports last number held (Some (stops.Script place why))
+LineLookFailed ports last number held faults faults_after stop = ⊥
+
+abbrev pub FailedLineLook : ScriptSource → ℕ → ℕ → Stop → Type 0
+FailedLineLook source faults faults_after stop = LineLookFailed source.ports source.tick source.line source.window faults faults_after stop
+
+-- the next event, whose tick is that of the last line that was read, at one of the ports
+abbrev pub IsNextLine : ScriptSource → Event → Type 0
+IsNextLine source event = (event.tick ≡ source.tick) × HappensWithin source.ports (seen event).happening
+
+-- the line that was read ahead, and the lines that are still to come
+abbrev pub lines_with_ahead : ScriptSource → Option (List ℕ) → Option Recording
+lines_with_ahead source left = option_map (after_ahead (option_map seen source.ahead)) (later_lines_of source left)

@@ -1,0 +1,113 @@
+//! A script as a source of events, read one line ahead.
+use crate::line::{LINE_MAX, read_line};
+use crate::window::Window;
+use psd_base::{Desk, Event, Input, ScriptFault, Stop, Tick};
+
+/// A script, and the line that was read ahead.
+#[derive(Drop)]
+pub struct ScriptSource {
+    pub window: Window,
+    /// The capture's number of ports, above which a line may name none.
+    pub ports: u8,
+    /// The tick of the last line that was read.
+    pub tick: Tick,
+    /// The number of the next line, from 1.
+    pub line: u32,
+    pub ahead: Option<Event>,
+}
+
+impl ScriptSource {
+    ghost use Rattle.std.specs.Prelude.{◌≡◌, ℕ, ◌+◌, ◌<◌, ◌≤◌, ◌^◌, List, [], length, take, true, false, Some, None, Ok, Err, option_map};
+    ghost use Rattle.std.specs.Prelude.{IfOk, IfErr, IfSome, IfNone, IsSomeAnd, OnOk, OnErr};
+    ghost use Rattle.psd_base.specs.Event.{seen};
+    ghost use Rattle.capture_reader.specs.Capture.{first};
+    ghost use Rattle.capture_reader.specs.Lines.{later_lines_of, LinesEndNow, FailedLineLook, IsNextLine, LineLookFailed};
+    ghost use Rattle.capture_reader.specs.Script.{lines};
+    ghost use Rattle.capture_reader.specs.Source.{after_ahead};
+    ghost use Rattle.capture_reader.specs.Window.{coming, FrontLine, OnlyReads};
+
+    /// A script of which nothing was read.
+    pub fn new(window: Window, ports: u8) -> ScriptSource
+        ensures { result ≡ record { window = window; ports = ports; tick = 0; line = 1; ahead = None } }
+    {
+        ScriptSource {
+            window,
+            ports,
+            tick: 0,
+            line: 1,
+            ahead: None,
+        }
+    }
+
+    /// Looks at the next line. Afterwards it is the one that was read ahead, or there is none at the end of the script.
+    pub fn look<D: Desk>(&mut self, desk: &mut D) -> Result<(), Stop>
+        requires { self.old.line < 2 ^ 31 }
+        ensures ports { self.new.ports ≡ self.old.ports }
+        ensures tick { self.old.tick ≤ self.new.tick }
+        ensures line { self.new.line ≤ self.old.line + 1 }
+
+        ensures read { OnOk result (later_lines_of self.old (D.left desk.old Input.Script)
+            ≡ option_map (after_ahead (option_map seen self.new.ahead)) (later_lines_of self.new (D.left desk.new Input.Script))) }
+        ensures ahead { OnOk result (IfSome self.new.ahead (IsNextLine self.new)) }
+        ensures end { OnOk result (IfNone self.new.ahead (LinesEndNow self.new None)) }
+
+        ensures err { IfErr result (FailedLineLook self.new
+            (D.read_faults desk.old Input.Script) (D.read_faults desk.new Input.Script)) }
+        ensures stays { OnErr result (later_lines_of self.new (D.left desk.new Input.Script)
+            ≡ later_lines_of self.old (D.left desk.old Input.Script)) }
+        ensures unread { self.old.window.ended ≡ true → (self.new.window.ended ≡ true) × (desk.new ≡ desk.old) }
+        ensures none { OnErr result (self.new.ahead ≡ None) }
+
+        ensures only { OnlyReads Input.Script
+            (D.left desk.old) (D.left desk.new) (D.sent desk.old) (D.sent desk.new)
+            (D.read_faults desk.old) (D.read_faults desk.new)
+            (D.write_faults desk.old) (D.write_faults desk.new) }
+    {
+        self.ahead = None;
+        match self.window.hold_line(desk, Input::Script) {
+            Ok(size) => self.take_line(size),
+            Err(_) => Err(Stop::ReadFault(Input::Script)),
+        }
+    }
+
+    /// The next line, of so many bytes, becomes the one that was read ahead, or there is none at the end of the script.
+    fn take_line(&mut self, size: usize) -> Result<(), Stop>
+        requires front { FrontLine self.old.window size }
+        requires none { self.old.ahead ≡ None }
+        requires line { self.old.line < 2 ^ 31 }
+        ensures ports { self.new.ports ≡ self.old.ports }
+        ensures window { self.new.window.ended ≡ self.old.window.ended }
+        ensures tick { self.old.tick ≤ self.new.tick }
+        ensures line { self.new.line ≤ self.old.line + 1 }
+        ensures read { OnOk result ((left : List ℕ) → lines self.old.ports self.old.tick self.old.line 0 (coming self.old.window left)
+            ≡ after_ahead (option_map seen self.new.ahead) (lines self.new.ports self.new.tick self.new.line 0 (coming self.new.window left))) }
+        ensures ahead { OnOk result (IfSome self.new.ahead (IsNextLine self.new)) }
+        ensures end { OnOk result (IfNone self.new.ahead (LinesEndNow self.new None)) }
+        ensures err { (before after : ℕ) → IfErr result (FailedLineLook self.new before after) }
+        ensures same { OnErr result (self.new ≡ self.old) }
+    {
+        if self.window.len() == 0 {
+            return Ok(());
+        }
+        match read_line(self.ports, self.tick, &self.window.bytes()[..size]) {
+            Ok(event) => {
+                self.window.drop_line(size);
+                self.line += 1;
+                self.tick = event.tick;
+                self.ahead = Some(event);
+                Ok(())
+            }
+            Err(why) => Err(self.fault(why)),
+        }
+    }
+
+    /// The fault of the next line.
+    fn fault(&self, why: ScriptFault) -> Stop
+        ensures { result ≡ Stop.Script self.now.line why }
+    {
+        Stop::Script {
+            line: self.line,
+            why,
+        }
+    }
+}

@@ -1,0 +1,4 @@
+-- The lemmas of this crate.
+pub mod ClassLaws
+pub mod RuleLaws
+pub mod VerdictLaws

@@ -1,0 +1,4 @@
+pub mod Choices
+mod Examples
+pub mod PortsDown
+pub mod Stands

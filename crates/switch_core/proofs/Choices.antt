@@ -1,0 +1,35 @@
+-- What a clock event makes of the selection.
+use Rattle.std.proofs.Common.{◌≡◌, ◌≢◌, ℕ, Bool, true, false, nat_eq, List, ◌∷◌, Option, Some, None, refl, cond}
+use Rattle.psd_base.specs.History.{newest}
+use Rattle.selector.specs.Choice.{Look, Choice, Nobody, Target, Selected, chosen, move_of, selected_in}
+use Rattle.switch_core.specs.Notes.{move_notes, selection_notes}
+
+is_somebody : (port : ℕ) (settled : Bool) → cond settled (Selected port) (Target port) ≢ Nobody
+is_somebody port true same = cc
+is_somebody port false same = cc
+
+-- once a port was asked for, somebody is chosen
+pub chosen-stays : (look : Look) (looks : List Look) (port : ℕ) → chosen looks ≡ Selected port → chosen (look ∷ looks) ≢ Nobody
+unfolding chosen
+chosen-stays look looks port before after = by_last (newest (λ l. l.ask) looks) look.ask refl refl where
+  by_last : (last asked : Option ℕ) → newest (λ l. l.ask) looks ≡ last → look.ask ≡ asked → ⊥
+  by_last None asked was is = let nobody = rw was at before in cc
+  by_last (Some other) None was is = let somebody = rw (is, was) at after in is_somebody other _ somebody
+  by_last (Some other) (Some new) was is = let somebody = rw is at after in is_somebody new _ somebody
+
+-- the notes of a move are those of the change from one selection to the next
+pub move_notes-is : (before after : Choice) → ((port : ℕ) → before ≡ Selected port → after ≢ Nobody)
+    → move_notes (move_of before after) ≡ selection_notes (selected_in before) (selected_in after)
+move_notes-is Nobody Nobody stays = refl
+move_notes-is Nobody (Target port) stays = refl
+move_notes-is Nobody (Selected port) stays = refl
+move_notes-is (Target waiting) Nobody stays = refl
+move_notes-is (Target waiting) (Target port) stays = refl
+move_notes-is (Target waiting) (Selected port) stays = refl
+move_notes-is (Selected left) Nobody stays = absurd (stays left refl refl)
+move_notes-is (Selected left) (Target port) stays = refl
+move_notes-is (Selected left) (Selected port) stays = by_same (nat_eq left port) refl where
+  by_same : (same : Bool) → nat_eq left port ≡ same
+      → move_notes (move_of (Selected left) (Selected port)) ≡ selection_notes (Some left) (Some port)
+  by_same true is = rw is refl
+  by_same false is = rw is refl

@@ -1,0 +1,94 @@
+//! The front of the switch: its self-test and its selection, which the panel and the clock alone move.
+ghost use Rattle.std.specs.Prelude.{◌≡◌, ◌<◌, List, [], ◌∷◌, true};
+ghost use Rattle.selector.specs.Moments.{Moment, Moved, Ticked};
+ghost use Rattle.selector.specs.Choice.{Choice, move_of};
+ghost use Rattle.switch_core.specs.Chosen.{IsKnownCheck, change_of, checks_in, health_at, selected_at};
+ghost use Rattle.switch_core.specs.Notes.{change_notes, move_notes, selection_notes};
+
+use crate::health_change::{HealthChange, change_between, health_moved, reason_for};
+use fail_secure::Health;
+use psd_base::console::{Note, Notes, Panel};
+use psd_base::event::Tick;
+use selector::{Move, Selector};
+
+/// The self-test and the selection.
+#[derive(Drop)]
+pub struct Front {
+    health: Health,
+    selector: Selector,
+    ghost unfinished: { checks_in health < 15 },
+}
+
+impl Front {
+    ghost use Rattle.switch_core.specs.FrontStands.{FrontStands};
+
+    /// The front before any move.
+    pub fn new() -> Front
+        ensures { FrontStands result [] }
+    {
+        Front {
+            health: Health::new(),
+            selector: Selector::new(),
+        }
+    }
+
+    /// Time passes, and the console shows nothing pressed. The selection moves while the switch is alive alone.
+    pub fn clock(&mut self, tick: Tick, notes: &mut Notes)
+        requires empty { notes.old.items ≡ [] }
+        ensures stands { (past : List Moment) → FrontStands self.old past → FrontStands self.new (Ticked tick true ∷ past) }
+        ensures notes { (past : List Moment) → FrontStands self.old past
+            → notes.new.items ≡ selection_notes (selected_at past) (selected_at (Ticked tick true ∷ past)) }
+    {
+        match self.health {
+            Health::Testing { .. } => {}
+            Health::Alive => note_move(self.selector.clock(tick, true), notes),
+            Health::Dark => {}
+        }
+    }
+
+    /// A move at the panel. Gives what it means for the ports.
+    pub fn moved(&mut self, tick: Tick, panel: &Panel, notes: &mut Notes) -> HealthChange
+        requires known { IsKnownCheck panel.now }
+        requires empty { notes.old.items ≡ [] }
+        ensures stands { (past : List Moment) → FrontStands self.old past → FrontStands self.new (Moved tick panel.now ∷ past) }
+        ensures change { (past : List Moment) → FrontStands self.old past
+            → result ≡ change_of (health_at past) (health_at (Moved tick panel.now ∷ past)) }
+        ensures notes { notes.new.items ≡ change_notes panel.now result }
+    {
+        let before = self.health;
+        let after = health_moved(before, panel, self.selector.buttons_up());
+        self.selector.panel(tick, panel);
+        self.health = after;
+        let change = change_between(before, after);
+        note_change(change, panel, notes);
+        change
+    }
+}
+
+/// Notes which port was left and which was selected.
+fn note_move(moved: Move, notes: &mut Notes)
+    requires { notes.old.items ≡ [] }
+    ensures { notes.new.items ≡ move_notes moved }
+{
+    match moved {
+        Move::Stay => {}
+        Move::Leave(left, _) => notes.push(Note::Leave(left)),
+        Move::Enter(port) => notes.push(Note::Select(port)),
+        Move::LeaveEnter(left, port) => {
+            notes.push(Note::Leave(left));
+            notes.push(Note::Select(port));
+        }
+    }
+}
+
+/// Notes that the switch became alive or dark.
+fn note_change(change: HealthChange, panel: &Panel, notes: &mut Notes)
+    requires { notes.old.items ≡ [] }
+    ensures { notes.new.items ≡ change_notes panel.now change }
+{
+    match change {
+        HealthChange::Stays => {}
+        HealthChange::Wakes => notes.push(Note::Alive),
+        HealthChange::Darkens => notes.push(Note::Dark(reason_for(panel))),
+    }
+}
