@@ -5,7 +5,7 @@ use Rattle.psd_base.specs.declared.outlet.Input.{Input}
 use Rattle.psd_base.specs.declared.outlet.Input.TheVariants as inputs
 use Rattle.psd_base.specs.declared.stop.Stop.{Stop}
 use Rattle.psd_base.specs.declared.stop.Stop.TheVariants as stops
-use Rattle.psd_base.specs.Desk.{Rose}
+use Rattle.psd_base.specs.Desk.{Rose, Told}
 use Rattle.psd_base.specs.Event.{Seen, seen}
 use Rattle.capture_reader.specs.declared.next.Next.TheVariants as nexts
 use Rattle.capture_reader.specs.declared.progress.State.TheVariants.{Waiting}
@@ -16,7 +16,7 @@ use Rattle.capture_reader.specs.Lines.{later_lines, lines_with_ahead, LinesEnd, 
 use Rattle.capture_reader.specs.Merge.{merge}
 use Rattle.capture_reader.specs.Progress.{reading, next_of}
 use Rattle.capture_reader.specs.Reader.{records_to_come, lines_to_come, upcoming, rest, IsLooked, IsOver, NewFailed}
-use Rattle.capture_reader.specs.Schedule.{Schedule, over, cut, cut_recording, merged, schedule, schedule_told, port_count}
+use Rattle.capture_reader.specs.Schedule.{Schedule, over, cut, cut_recording, both, merged, schedule, schedule_told, port_count}
 use Rattle.capture_reader.specs.Script.{lines, script}
 use Rattle.capture_reader.specs.Source.{later, after_ahead, Ends, LookFailed, OpenFailed}
 use Rattle.capture_reader.specs.Window.{Held, coming, still}
@@ -96,47 +96,47 @@ merged_over-script limit (Some told) None stop ends = tt
 merged_over-script limit (Some told) (Some said) stop ends = cut_over limit _ (Some stop) (script_over told said stop ends)
 
 -- the first look at the capture failed
-pub capture_failed : (capture : CaptureSource) (source : ScriptSource) (limit : ℕ) (before : Option Recording) (left script_left : Option (List ℕ)) (reads reads_after : Input → ℕ) (stop : Stop)
+pub capture_failed : (capture : CaptureSource) (source : ScriptSource) (limit : ℕ) (before : Option Recording) (left script_left : Option (List ℕ)) (desk desk_after : Told) (stop : Stop)
     → later capture.ports capture.tick capture.offset capture.window left ≡ before → IfNone source.ahead (LinesEnd source.ports source.tick source.line source.window None)
-    → LookFailed capture.ports capture.tick capture.offset capture.window (reads inputs.Capture) (reads_after inputs.Capture) stop
-    → NewFailed (merged limit before (lines_with_ahead source script_left)) reads reads_after ⊥ stop
-capture_failed capture source limit before left script_left reads reads_after stops.Usage same lines_end failed = failed
-capture_failed capture source limit before left script_left reads reads_after (stops.Rules why) same lines_end failed = failed
-capture_failed capture source limit before left script_left reads reads_after (stops.Capture offset why) same lines_end failed =
+    → LookFailed capture.ports capture.tick capture.offset capture.window desk desk_after stop
+    → NewFailed (merged limit before (lines_with_ahead source script_left)) desk desk_after ⊥ stop
+capture_failed capture source limit before left script_left desk desk_after stops.Usage same lines_end failed = failed
+capture_failed capture source limit before left script_left desk desk_after (stops.Rules why) same lines_end failed = failed
+capture_failed capture source limit before left script_left desk desk_after (stops.Capture offset why) same lines_end failed =
     merged_over-capture limit before (later_lines source.ports source.tick source.line source.window script_left) (option_map seen source.ahead) (stops.Capture offset why)
     (subst (λ (recording : Option Recording). IfSome recording (λ r. r ≡ none_until (Some (stops.Capture offset why)))) same
     (later_ends capture.ports capture.tick capture.offset capture.window (Some (stops.Capture offset why)) left failed))
     (none_seen _ source.ahead (none_weaker source.ahead (later_lines_end source.ports source.tick source.line source.window None script_left) lines_end))
-capture_failed capture source limit before left script_left reads reads_after (stops.Script line why) same lines_end failed = absurd failed
-capture_failed capture source limit before left script_left reads reads_after stops.TooLong same lines_end failed = failed
-capture_failed capture source limit before left script_left reads reads_after (stops.ReadFault inputs.Rules) same lines_end failed = failed
-capture_failed capture source limit before left script_left reads reads_after (stops.ReadFault inputs.Capture) same lines_end failed = failed.0
-capture_failed capture source limit before left script_left reads reads_after (stops.ReadFault inputs.Script) same lines_end failed = absurd failed
-capture_failed capture source limit before left script_left reads reads_after (stops.WriteFault outlet) same lines_end failed = failed
-capture_failed capture source limit before left script_left reads reads_after stops.OutOfMemory same lines_end failed = failed
+capture_failed capture source limit before left script_left desk desk_after (stops.Script line why) same lines_end failed = absurd failed
+capture_failed capture source limit before left script_left desk desk_after stops.TooLong same lines_end failed = failed
+capture_failed capture source limit before left script_left desk desk_after (stops.ReadFault inputs.Rules) same lines_end failed = failed
+capture_failed capture source limit before left script_left desk desk_after (stops.ReadFault inputs.Capture) same lines_end failed = failed.0
+capture_failed capture source limit before left script_left desk desk_after (stops.ReadFault inputs.Script) same lines_end failed = absurd failed
+capture_failed capture source limit before left script_left desk desk_after (stops.WriteFault outlet) same lines_end failed = failed
+capture_failed capture source limit before left script_left desk desk_after stops.OutOfMemory same lines_end failed = failed
 
 -- the first look at the script failed
-pub script_failed : (source : ScriptSource) (limit : ℕ) (told before : Option Recording) (left : Option (List ℕ)) (reads reads_after : Input → ℕ) (stop : Stop)
+pub script_failed : (source : ScriptSource) (limit : ℕ) (told before : Option Recording) (left : Option (List ℕ)) (desk desk_after : Told) (stop : Stop)
     → later_lines source.ports source.tick source.line source.window left ≡ before
-    → LineLookFailed source.ports source.tick source.line source.window (reads inputs.Script) (reads_after inputs.Script) stop
-    → NewFailed (merged limit told before) reads reads_after ⊥ stop
-script_failed source limit told before left reads reads_after stops.Usage same failed = failed
-script_failed source limit told before left reads reads_after (stops.Rules why) same failed = failed
-script_failed source limit told before left reads reads_after (stops.Capture offset why) same failed = absurd failed
-script_failed source limit told before left reads reads_after (stops.Script line why) same failed =
+    → LineLookFailed source.ports source.tick source.line source.window desk desk_after stop
+    → NewFailed (merged limit told before) desk desk_after ⊥ stop
+script_failed source limit told before left desk desk_after stops.Usage same failed = failed
+script_failed source limit told before left desk desk_after (stops.Rules why) same failed = failed
+script_failed source limit told before left desk desk_after (stops.Capture offset why) same failed = absurd failed
+script_failed source limit told before left desk desk_after (stops.Script line why) same failed =
     merged_over-script limit told before (stops.Script line why)
     (subst (λ (recording : Option Recording). IfSome recording (λ r. r ≡ none_until (Some (stops.Script line why)))) same
     (later_lines_end source.ports source.tick source.line source.window (Some (stops.Script line why)) left failed))
-script_failed source limit told before left reads reads_after stops.TooLong same failed = failed
-script_failed source limit told before left reads reads_after (stops.ReadFault inputs.Rules) same failed = failed
-script_failed source limit told before left reads reads_after (stops.ReadFault inputs.Capture) same failed = absurd failed
-script_failed source limit told before left reads reads_after (stops.ReadFault inputs.Script) same failed = failed.0
-script_failed source limit told before left reads reads_after (stops.WriteFault outlet) same failed = failed
-script_failed source limit told before left reads reads_after stops.OutOfMemory same failed = failed
+script_failed source limit told before left desk desk_after stops.TooLong same failed = failed
+script_failed source limit told before left desk desk_after (stops.ReadFault inputs.Rules) same failed = failed
+script_failed source limit told before left desk desk_after (stops.ReadFault inputs.Capture) same failed = absurd failed
+script_failed source limit told before left desk desk_after (stops.ReadFault inputs.Script) same failed = failed.0
+script_failed source limit told before left desk desk_after (stops.WriteFault outlet) same failed = failed
+script_failed source limit told before left desk desk_after stops.OutOfMemory same failed = failed
 
 -- the schedule of the bytes that were left
 pub schedules : (limit ports : ℕ) (capture_left script_left : Option (List ℕ)) → IfSome capture_left (λ bytes. header bytes ≡ Ok ports)
-    → merged limit (option_map (λ bytes. records ports 0 8 0 (drop 8 bytes)) capture_left) (option_map (script ports) script_left) ≡ schedule_told limit capture_left script_left
+    → merged limit (option_map (λ bytes. records ports 0 8 0 (drop 8 bytes)) capture_left) (option_map (script ports) script_left) ≡ both (schedule limit) capture_left script_left
 unfolding schedule
 schedules limit ports None script_left told = refl
 schedules limit ports (Some bytes) None told = refl
@@ -154,40 +154,40 @@ unfolding port_count
 port_count_told None ports ports_after same told = tt
 port_count_told (Some bytes) ports ports_after same told = rw (told, port_count) (sym same)
 
-over_of_header : (limit : ℕ) (left script_left : Option (List ℕ)) (stop : Stop) → IfSome left (λ bytes. header bytes ≡ Err stop) → IsOver (Some stop) (schedule_told limit left script_left)
+over_of_header : (limit : ℕ) (left script_left : Option (List ℕ)) (stop : Stop) → IfSome left (λ bytes. header bytes ≡ Err stop) → IsOver (Some stop) (both (schedule limit) left script_left)
 unfolding schedule
 over_of_header limit None script_left stop faulty = tt
 over_of_header limit (Some bytes) None stop faulty = tt
 over_of_header limit (Some bytes) (Some script_bytes) stop faulty = rw (faulty, schedule) refl
 
 -- the header couldn't be read
-pub open_is_new : (limit : ℕ) (left script_left : Option (List ℕ)) (reads reads_after : Input → ℕ) (stop : Stop) → OpenFailed left (reads inputs.Capture) (reads_after inputs.Capture) stop
-    → NewFailed (schedule_told limit left script_left) reads reads_after ⊥ stop
-open_is_new limit left script_left reads reads_after stops.Usage failed = failed
-open_is_new limit left script_left reads reads_after (stops.Rules why) failed = failed
-open_is_new limit left script_left reads reads_after (stops.Capture offset why) failed = over_of_header limit left script_left (stops.Capture offset why) failed
-open_is_new limit left script_left reads reads_after (stops.Script line why) failed = absurd failed
-open_is_new limit left script_left reads reads_after stops.TooLong failed = failed
-open_is_new limit left script_left reads reads_after (stops.ReadFault inputs.Rules) failed = failed
-open_is_new limit left script_left reads reads_after (stops.ReadFault inputs.Capture) failed = failed
-open_is_new limit left script_left reads reads_after (stops.ReadFault inputs.Script) failed = absurd failed
-open_is_new limit left script_left reads reads_after (stops.WriteFault outlet) failed = failed
-open_is_new limit left script_left reads reads_after stops.OutOfMemory failed = failed
+pub open_is_new : (limit : ℕ) (desk desk_after : Told) (stop : Stop) → OpenFailed desk desk_after stop
+    → NewFailed (schedule_told limit desk) desk desk_after ⊥ stop
+open_is_new limit desk desk_after stops.Usage failed = failed
+open_is_new limit desk desk_after (stops.Rules why) failed = failed
+open_is_new limit desk desk_after (stops.Capture offset why) failed = over_of_header limit (desk.left inputs.Capture) (desk.left inputs.Script) (stops.Capture offset why) failed
+open_is_new limit desk desk_after (stops.Script line why) failed = absurd failed
+open_is_new limit desk desk_after stops.TooLong failed = failed
+open_is_new limit desk desk_after (stops.ReadFault inputs.Rules) failed = failed
+open_is_new limit desk desk_after (stops.ReadFault inputs.Capture) failed = failed
+open_is_new limit desk desk_after (stops.ReadFault inputs.Script) failed = absurd failed
+open_is_new limit desk desk_after (stops.WriteFault outlet) failed = failed
+open_is_new limit desk desk_after stops.OutOfMemory failed = failed
 
 rose_since : (earlier before after : ℕ) → earlier ≤ before → Rose before after → Rose earlier after
 rose_since earlier before after ordered (inl above) = inl (omega arith)
 rose_since earlier before after ordered (inr last) = inr last
 
 -- a count that rose is above what it was earlier, too
-pub failed_since : (before : Option Schedule) (earlier reads reads_after : Input → ℕ) (stop : Stop) → ((input : Input) → earlier input ≤ reads input)
-    → NewFailed before reads reads_after ⊥ stop → NewFailed before earlier reads_after ⊥ stop
-failed_since before earlier reads reads_after stops.Usage ordered failed = failed
-failed_since before earlier reads reads_after (stops.Rules why) ordered failed = failed
-failed_since before earlier reads reads_after (stops.Capture offset why) ordered failed = failed
-failed_since before earlier reads reads_after (stops.Script line why) ordered failed = failed
-failed_since before earlier reads reads_after stops.TooLong ordered failed = failed
-failed_since before earlier reads reads_after (stops.ReadFault inputs.Rules) ordered failed = failed
-failed_since before earlier reads reads_after (stops.ReadFault inputs.Capture) ordered failed = rose_since (earlier inputs.Capture) (reads inputs.Capture) (reads_after inputs.Capture) (ordered inputs.Capture) failed
-failed_since before earlier reads reads_after (stops.ReadFault inputs.Script) ordered failed = rose_since (earlier inputs.Script) (reads inputs.Script) (reads_after inputs.Script) (ordered inputs.Script) failed
-failed_since before earlier reads reads_after (stops.WriteFault outlet) ordered failed = failed
-failed_since before earlier reads reads_after stops.OutOfMemory ordered failed = failed
+pub failed_since : (before : Option Schedule) (earlier desk desk_after : Told) (stop : Stop) → ((input : Input) → earlier.read_faults input ≤ desk.read_faults input)
+    → NewFailed before desk desk_after ⊥ stop → NewFailed before earlier desk_after ⊥ stop
+failed_since before earlier desk desk_after stops.Usage ordered failed = failed
+failed_since before earlier desk desk_after (stops.Rules why) ordered failed = failed
+failed_since before earlier desk desk_after (stops.Capture offset why) ordered failed = failed
+failed_since before earlier desk desk_after (stops.Script line why) ordered failed = failed
+failed_since before earlier desk desk_after stops.TooLong ordered failed = failed
+failed_since before earlier desk desk_after (stops.ReadFault inputs.Rules) ordered failed = failed
+failed_since before earlier desk desk_after (stops.ReadFault inputs.Capture) ordered failed = rose_since (earlier.read_faults inputs.Capture) (desk.read_faults inputs.Capture) (desk_after.read_faults inputs.Capture) (ordered inputs.Capture) failed
+failed_since before earlier desk desk_after (stops.ReadFault inputs.Script) ordered failed = rose_since (earlier.read_faults inputs.Script) (desk.read_faults inputs.Script) (desk_after.read_faults inputs.Script) (ordered inputs.Script) failed
+failed_since before earlier desk desk_after (stops.WriteFault outlet) ordered failed = failed
+failed_since before earlier desk desk_after stops.OutOfMemory ordered failed = failed

@@ -2,9 +2,11 @@
 use Rattle.std.proofs.Common.{◌≡◌, ℕ, ◌<◌, ◌≤◌, true, false, nat_lt, List, [], ◌++◌, length, drop, slice_index, Option, Some, None, option_map, IfSome, Result, Err, refl, sym, ap, ◌∙◌, subst, arith, length-append}
 use Rattle.std.proofs.lemmas.Bool.Decides.{nat_tests}
 use Rattle.std.proofs.lemmas.List.{get_or_append_left}
+use Rattle.psd_base.specs.declared.outlet.Input.TheVariants as inputs
 use Rattle.psd_base.specs.declared.stop.CaptureFault.TheVariants.{Truncated}
 use Rattle.psd_base.specs.declared.stop.Stop.{Stop}
 use Rattle.psd_base.specs.declared.stop.Stop.TheVariants as stops
+use Rattle.psd_base.specs.Desk.{Told}
 use Rattle.capture_reader.specs.Capture.{header, records}
 use Rattle.capture_reader.specs.Source.{later, IsCaptureStop, OpenFailed}
 use Rattle.capture_reader.specs.Window.{Held, coming, still}
@@ -55,12 +57,12 @@ records_told held left (Some after) ports all whole =
     ap (option_map (λ bytes. records ports 0 8 0 (drop 8 bytes))) all
     ∙ ap (λ bytes. Some (records ports 0 8 0 bytes)) (coming_past held.bytes held.ended after 8 whole)
 
-pub open_failed : (left : Option (List ℕ)) (faults faults_after : ℕ) (stop : Stop) → IsCaptureStop stop → IfSome left (λ bytes. header bytes ≡ Err stop) → OpenFailed left faults faults_after stop
-open_failed left faults faults_after stops.Usage is told = is
-open_failed left faults faults_after (stops.Rules why) is told = is
-open_failed left faults faults_after (stops.Capture offset why) is told = told
-open_failed left faults faults_after (stops.Script line why) is told = is
-open_failed left faults faults_after stops.TooLong is told = is
-open_failed left faults faults_after (stops.ReadFault input) is told = absurd is
-open_failed left faults faults_after (stops.WriteFault outlet) is told = is
-open_failed left faults faults_after stops.OutOfMemory is told = is
+pub open_failed : (desk desk_after : Told) (stop : Stop) → IsCaptureStop stop → IfSome (desk.left inputs.Capture) (λ bytes. header bytes ≡ Err stop) → OpenFailed desk desk_after stop
+open_failed desk desk_after stops.Usage is told = is
+open_failed desk desk_after (stops.Rules why) is told = is
+open_failed desk desk_after (stops.Capture offset why) is told = told
+open_failed desk desk_after (stops.Script line why) is told = is
+open_failed desk desk_after stops.TooLong is told = is
+open_failed desk desk_after (stops.ReadFault input) is told = absurd is
+open_failed desk desk_after (stops.WriteFault outlet) is told = is
+open_failed desk desk_after stops.OutOfMemory is told = is

@@ -7,6 +7,7 @@ use Rattle.psd_base.specs.declared.outlet.Input.TheVariants as inputs
 use Rattle.psd_base.specs.declared.stop.Stop.{Stop}
 use Rattle.psd_base.specs.declared.stop.Stop.TheVariants as stops
 use Rattle.psd_base.specs.declared.stop.Stop.TheVariants.{TooLong}
+use Rattle.psd_base.specs.Desk.{Told}
 use Rattle.psd_base.specs.Event.{seen}
 use Rattle.capture_reader.specs.declared.next.Next.TheVariants as nexts
 use Rattle.capture_reader.specs.declared.progress.Progress.{Progress}
@@ -187,47 +188,47 @@ rest_stopped progress stop capture_left script_left waiting =
     subst P (sym waiting) refl
 
 -- a look at the capture that failed is the cause of a stop
-pub capture_stops : (progress : Progress) (before : Option Schedule) (capture_left script_left : Option (List ℕ)) (reads reads_after : Input → ℕ) (answer stop : Stop) → progress.state ≡ Stopped answer
+pub capture_stops : (progress : Progress) (before : Option Schedule) (capture_left script_left : Option (List ℕ)) (desk desk_after : Told) (answer stop : Stop) → progress.state ≡ Stopped answer
     → progress.capture.ahead ≡ None → IfNone progress.script.ahead (LinesEnd progress.capture.ports progress.script.tick progress.script.line progress.script.window None)
     → rest (reading progress) capture_left script_left ≡ before
-    → LookFailed progress.capture.ports progress.capture.tick progress.capture.offset progress.capture.window (reads inputs.Capture) (reads_after inputs.Capture) stop
-    → StopsBecause (reading progress) before reads reads_after stop
-capture_stops progress before capture_left script_left reads reads_after answer stops.Usage state none lines_end same failed = failed
-capture_stops progress before capture_left script_left reads reads_after answer (stops.Rules why) state none lines_end same failed = failed
-capture_stops progress before capture_left script_left reads reads_after answer (stops.Capture offset why) state none lines_end same failed =
+    → LookFailed progress.capture.ports progress.capture.tick progress.capture.offset progress.capture.window desk desk_after stop
+    → StopsBecause (reading progress) before desk desk_after stop
+capture_stops progress before capture_left script_left desk desk_after answer stops.Usage state none lines_end same failed = failed
+capture_stops progress before capture_left script_left desk desk_after answer (stops.Rules why) state none lines_end same failed = failed
+capture_stops progress before capture_left script_left desk desk_after answer (stops.Capture offset why) state none lines_end same failed =
     let shows : ShowsOver (Some (stops.Capture offset why)) (reading progress) =
     subst (λ (state : State). ShowsOver (Some (stops.Capture offset why)) (reading (record progress { state = state }))) (sym state)
     (shows_capture progress.capture progress.script progress.limit progress.served progress.tick answer (stops.Capture offset why) none failed lines_end) in
     (shows, over_before (Some (stops.Capture offset why)) (reading progress) capture_left script_left before same shows)
-capture_stops progress before capture_left script_left reads reads_after answer (stops.Script line why) state none lines_end same failed = absurd failed
-capture_stops progress before capture_left script_left reads reads_after answer stops.TooLong state none lines_end same failed = absurd failed
-capture_stops progress before capture_left script_left reads reads_after answer (stops.ReadFault inputs.Rules) state none lines_end same failed = failed
-capture_stops progress before capture_left script_left reads reads_after answer (stops.ReadFault inputs.Capture) state none lines_end same failed = failed
-capture_stops progress before capture_left script_left reads reads_after answer (stops.ReadFault inputs.Script) state none lines_end same failed = absurd failed
-capture_stops progress before capture_left script_left reads reads_after answer (stops.WriteFault outlet) state none lines_end same failed = failed
-capture_stops progress before capture_left script_left reads reads_after answer stops.OutOfMemory state none lines_end same failed = failed
+capture_stops progress before capture_left script_left desk desk_after answer (stops.Script line why) state none lines_end same failed = absurd failed
+capture_stops progress before capture_left script_left desk desk_after answer stops.TooLong state none lines_end same failed = absurd failed
+capture_stops progress before capture_left script_left desk desk_after answer (stops.ReadFault inputs.Rules) state none lines_end same failed = failed
+capture_stops progress before capture_left script_left desk desk_after answer (stops.ReadFault inputs.Capture) state none lines_end same failed = failed
+capture_stops progress before capture_left script_left desk desk_after answer (stops.ReadFault inputs.Script) state none lines_end same failed = absurd failed
+capture_stops progress before capture_left script_left desk desk_after answer (stops.WriteFault outlet) state none lines_end same failed = failed
+capture_stops progress before capture_left script_left desk desk_after answer stops.OutOfMemory state none lines_end same failed = failed
 
 -- and one at the script
-pub script_stops : (progress : Progress) (before : Option Schedule) (capture_left script_left : Option (List ℕ)) (reads reads_after : Input → ℕ) (answer stop : Stop) → progress.state ≡ Stopped answer
+pub script_stops : (progress : Progress) (before : Option Schedule) (capture_left script_left : Option (List ℕ)) (desk desk_after : Told) (answer stop : Stop) → progress.state ≡ Stopped answer
     → progress.script.ahead ≡ None → progress.script.ports ≡ progress.capture.ports
     → rest (reading progress) capture_left script_left ≡ before
-    → LineLookFailed progress.script.ports progress.script.tick progress.script.line progress.script.window (reads inputs.Script) (reads_after inputs.Script) stop
-    → StopsBecause (reading progress) before reads reads_after stop
-script_stops progress before capture_left script_left reads reads_after answer stops.Usage state none ports same failed = failed
-script_stops progress before capture_left script_left reads reads_after answer (stops.Rules why) state none ports same failed = failed
-script_stops progress before capture_left script_left reads reads_after answer (stops.Capture offset why) state none ports same failed = absurd failed
-script_stops progress before capture_left script_left reads reads_after answer (stops.Script line why) state none ports same failed =
+    → LineLookFailed progress.script.ports progress.script.tick progress.script.line progress.script.window desk desk_after stop
+    → StopsBecause (reading progress) before desk desk_after stop
+script_stops progress before capture_left script_left desk desk_after answer stops.Usage state none ports same failed = failed
+script_stops progress before capture_left script_left desk desk_after answer (stops.Rules why) state none ports same failed = failed
+script_stops progress before capture_left script_left desk desk_after answer (stops.Capture offset why) state none ports same failed = absurd failed
+script_stops progress before capture_left script_left desk desk_after answer (stops.Script line why) state none ports same failed =
     let ends = subst (λ n. LinesEnd n progress.script.tick progress.script.line progress.script.window (Some (stops.Script line why))) ports failed in
     let shows : ShowsOver (Some (stops.Script line why)) (reading progress) =
     subst (λ (state : State). ShowsOver (Some (stops.Script line why)) (reading (record progress { state = state }))) (sym state)
     (shows_script progress.capture progress.script progress.limit progress.served progress.tick answer (stops.Script line why) none ends) in
     (shows, over_before (Some (stops.Script line why)) (reading progress) capture_left script_left before same shows)
-script_stops progress before capture_left script_left reads reads_after answer stops.TooLong state none ports same failed = absurd failed
-script_stops progress before capture_left script_left reads reads_after answer (stops.ReadFault inputs.Rules) state none ports same failed = failed
-script_stops progress before capture_left script_left reads reads_after answer (stops.ReadFault inputs.Capture) state none ports same failed = absurd failed
-script_stops progress before capture_left script_left reads reads_after answer (stops.ReadFault inputs.Script) state none ports same failed = failed
-script_stops progress before capture_left script_left reads reads_after answer (stops.WriteFault outlet) state none ports same failed = failed
-script_stops progress before capture_left script_left reads reads_after answer stops.OutOfMemory state none ports same failed = failed
+script_stops progress before capture_left script_left desk desk_after answer stops.TooLong state none ports same failed = absurd failed
+script_stops progress before capture_left script_left desk desk_after answer (stops.ReadFault inputs.Rules) state none ports same failed = failed
+script_stops progress before capture_left script_left desk desk_after answer (stops.ReadFault inputs.Capture) state none ports same failed = absurd failed
+script_stops progress before capture_left script_left desk desk_after answer (stops.ReadFault inputs.Script) state none ports same failed = failed
+script_stops progress before capture_left script_left desk desk_after answer (stops.WriteFault outlet) state none ports same failed = failed
+script_stops progress before capture_left script_left desk desk_after answer stops.OutOfMemory state none ports same failed = failed
 
 nothing_seen : (ahead : Option Event) → option_map seen ahead ≡ None → ahead ≡ None
 nothing_seen None none = refl
@@ -261,14 +262,14 @@ ended new old before capture_left script_left same waiting no_record no_line sho
     (end, shows, over_before None (reading new) capture_left script_left before rest_is shows)
 
 -- one event too many
-pub too_long : (new old : Progress) (before : Option Schedule) (capture_left script_left : Option (List ℕ)) (reads reads_after : Input → ℕ) (stop : Stop) → stop ≡ TooLong
+pub too_long : (new old : Progress) (before : Option Schedule) (capture_left script_left : Option (List ℕ)) (desk desk_after : Told) (stop : Stop) → stop ≡ TooLong
     → new ≡ record old { state = Stopped TooLong } → old.state ≡ Waiting → old.served ≡ old.limit → ShowsOver (Some TooLong) (reading new)
-    → rest (reading old) capture_left script_left ≡ before → StopsBecause (reading new) before reads reads_after stop
-too_long new old before capture_left script_left reads reads_after stop is same waiting full shows rest_is =
+    → rest (reading old) capture_left script_left ≡ before → StopsBecause (reading new) before desk desk_after stop
+too_long new old before capture_left script_left desk desk_after stop is same waiting full shows rest_is =
     let rest_new : rest (reading new) capture_left script_left ≡ before =
     ap (λ (progress : Progress). rest (reading progress) capture_left script_left) same ∙ rest_stopped old TooLong capture_left script_left waiting ∙ rest_is in
     let counts : new.served ≡ new.limit = ap (λ (progress : Progress). progress.served) same ∙ full ∙ sym (ap (λ (progress : Progress). progress.limit) same) in
-    subst (λ (answer : Stop). StopsBecause (reading new) before reads reads_after answer) (sym is)
+    subst (λ (answer : Stop). StopsBecause (reading new) before desk desk_after answer) (sym is)
     (shows, over_before (Some TooLong) (reading new) capture_left script_left before rest_new shows, counts)
 
 pub not_ok_true : (answer : Result Bool Stop) → answer ≡ Ok false → answer ≢ Ok true

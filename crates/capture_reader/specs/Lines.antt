@@ -4,7 +4,7 @@ use Rattle.psd_base.specs.declared.event.Event.{Event}
 use Rattle.psd_base.specs.declared.outlet.Input.TheVariants as inputs
 use Rattle.psd_base.specs.declared.stop.Stop.{Stop}
 use Rattle.psd_base.specs.declared.stop.Stop.TheVariants as stops
-use Rattle.psd_base.specs.Desk.{Rose}
+use Rattle.psd_base.specs.Desk.{ReadFailed, Told}
 use Rattle.psd_base.specs.Event.{HappensWithin, seen}
 use Rattle.capture_reader.specs.declared.script.ScriptSource.{ScriptSource}
 use Rattle.capture_reader.specs.Capture.{Recording, none_until}
@@ -19,6 +19,9 @@ later_lines ports last number held left = option_map (lines ports last number 0)
 abbrev pub later_lines_of : ScriptSource → Option (List ℕ) → Option Recording
 later_lines_of source left = later_lines source.ports source.tick source.line source.window left
 
+abbrev pub lines_later : ScriptSource → Told → Option Recording
+lines_later source told = later_lines_of source (told.left inputs.Script)
+
 -- no line is still to come, whatever bytes the desk has left
 abbrev pub LinesEnd : ℕ → ℕ → ℕ → Held → Option Stop → Type 0
 LinesEnd ports last number held stop = (left : List ℕ) → lines ports last number 0 (coming held left) ≡ none_until stop
@@ -27,13 +30,13 @@ abbrev pub LinesEndNow : ScriptSource → Option Stop → Type 0
 LinesEndNow source stop = LinesEnd source.ports source.tick source.line source.window stop
 
 -- why looking ahead failed: a fault that the bytes show, or a failed read, whose count rose, before a line was whole
-abbrev pub LineLookFailed : ℕ → ℕ → ℕ → Held → ℕ → ℕ → Stop → Type 0
-LineLookFailed ports last number held faults faults_after (stops.ReadFault inputs.Script) = Rose faults faults_after × HasNoLine held.bytes
-LineLookFailed ports last number held faults faults_after (stops.Script place why) = LinesEnd ports last number held (Some (stops.Script place why))
-LineLookFailed ports last number held faults faults_after stop = ⊥
+abbrev pub LineLookFailed : ℕ → ℕ → ℕ → Held → Told → Told → Stop → Type 0
+LineLookFailed ports last number held told told_after (stops.ReadFault inputs.Script) = ReadFailed inputs.Script told told_after × HasNoLine held.bytes
+LineLookFailed ports last number held told told_after (stops.Script place why) = LinesEnd ports last number held (Some (stops.Script place why))
+LineLookFailed ports last number held told told_after stop = ⊥
 
-abbrev pub FailedLineLook : ScriptSource → ℕ → ℕ → Stop → Type 0
-FailedLineLook source faults faults_after stop = LineLookFailed source.ports source.tick source.line source.window faults faults_after stop
+abbrev pub FailedLineLook : ScriptSource → Told → Told → Stop → Type 0
+FailedLineLook source told told_after stop = LineLookFailed source.ports source.tick source.line source.window told told_after stop
 
 -- the next event, whose tick is that of the last line that was read, at one of the ports
 abbrev pub IsNextLine : ScriptSource → Event → Type 0

@@ -6,7 +6,7 @@ use Rattle.psd_base.specs.declared.stop.CaptureFault.{CaptureFault}
 use Rattle.psd_base.specs.declared.stop.ScriptFault.{ScriptFault}
 use Rattle.psd_base.specs.declared.stop.Stop.{Stop}
 use Rattle.psd_base.specs.declared.stop.Stop.TheVariants as stops
-use Rattle.psd_base.specs.Desk.{Rose}
+use Rattle.psd_base.specs.Desk.{ReadFailed, Told}
 use Rattle.psd_base.specs.Event.{HappensWithin, Seen}
 use Rattle.capture_reader.specs.Capture.{Recording, records}
 use Rattle.capture_reader.specs.Merge.{merge}
@@ -14,7 +14,6 @@ use Rattle.capture_reader.specs.Schedule.{Schedule, in_front, over, both, cut_re
 use Rattle.capture_reader.specs.Script.{lines}
 use Rattle.capture_reader.specs.Source.{after_ahead}
 use Rattle.capture_reader.specs.Window.{Held, HasNoLine, coming}
-pub use Rattle.capture_reader.specs.Window.{ReadsSources}
 
 -- how far a source was read
 pub record Following : Type 0 where
@@ -60,6 +59,10 @@ upcoming reading capture_left script_left =
 unfoldable pub rest : Reading → Option (List ℕ) → Option (List ℕ) → Option Schedule
 rest reading capture_left script_left = both (upcoming reading) capture_left script_left
 
+-- the same with what a desk tells
+abbrev pub rest_told : Reading → Told → Option Schedule
+rest_told reading told = rest reading (told.left inputs.Capture) (told.left inputs.Script)
+
 -- the event that was given is the next of what was to come
 abbrev pub GivesNext : Reading → Option Schedule → Option Schedule → Type 0
 GivesNext new before after = IsSomeAnd new.given (λ event. before ≡ option_map (in_front event) after)
@@ -92,13 +95,13 @@ abbrev pub IsInOrder : ℕ → ℕ → ℕ → Seen → Type 0
 IsInOrder tick_before tick_after ports event = (tick_before ≤ event.tick) × (event.tick ≡ tick_after) × HappensWithin ports event.happening
 
 -- why a reader stops: what was to come is over so, or a read failed and its count rose
-abbrev pub StopsBecause : Reading → Option Schedule → (Input → ℕ) → (Input → ℕ) → Stop → Type 0
-StopsBecause new before reads reads_after (stops.ReadFault inputs.Capture) = Rose (reads inputs.Capture) (reads_after inputs.Capture) × HoldsNoRecord new
-StopsBecause new before reads reads_after (stops.ReadFault inputs.Script) = Rose (reads inputs.Script) (reads_after inputs.Script) × HoldsNoLine new
-StopsBecause new before reads reads_after (stops.Capture offset why) = ShowsOver (Some (stops.Capture offset why)) new × IsOver (Some (stops.Capture offset why)) before
-StopsBecause new before reads reads_after (stops.Script line why) = ShowsOver (Some (stops.Script line why)) new × IsOver (Some (stops.Script line why)) before
-StopsBecause new before reads reads_after stops.TooLong = ShowsOver (Some stops.TooLong) new × IsOver (Some stops.TooLong) before × (new.served ≡ new.limit)
-StopsBecause new before reads reads_after stop = ⊥
+abbrev pub StopsBecause : Reading → Option Schedule → Told → Told → Stop → Type 0
+StopsBecause new before told told_after (stops.ReadFault inputs.Capture) = ReadFailed inputs.Capture told told_after × HoldsNoRecord new
+StopsBecause new before told told_after (stops.ReadFault inputs.Script) = ReadFailed inputs.Script told told_after × HoldsNoLine new
+StopsBecause new before told told_after (stops.Capture offset why) = ShowsOver (Some (stops.Capture offset why)) new × IsOver (Some (stops.Capture offset why)) before
+StopsBecause new before told told_after (stops.Script line why) = ShowsOver (Some (stops.Script line why)) new × IsOver (Some (stops.Script line why)) before
+StopsBecause new before told told_after stops.TooLong = ShowsOver (Some stops.TooLong) new × IsOver (Some stops.TooLong) before × (new.served ≡ new.limit)
+StopsBecause new before told told_after stop = ⊥
 
 -- a source isn't faulty before its first event
 pub record IsLooked (before : Option Schedule) : Type 0 where
@@ -106,10 +109,10 @@ pub record IsLooked (before : Option Schedule) : Type 0 where
   pub no_script_fault : (line : ℕ) (why : ScriptFault) → before ≢ Some (over (Some (stops.Script line why)))
 
 -- why there is no reader: no event is to come and a source is faulty, or a read failed and its count rose
-abbrev pub NewFailed : Option Schedule → (Input → ℕ) → (Input → ℕ) → Type 0 → Stop → Type 0
-NewFailed before reads reads_after unread (stops.ReadFault inputs.Capture) = Rose (reads inputs.Capture) (reads_after inputs.Capture)
-NewFailed before reads reads_after unread (stops.ReadFault inputs.Script) = Rose (reads inputs.Script) (reads_after inputs.Script)
-NewFailed before reads reads_after unread (stops.Capture offset why) = IsOver (Some (stops.Capture offset why)) before
-NewFailed before reads reads_after unread (stops.Script line why) = IsOver (Some (stops.Script line why)) before
-NewFailed before reads reads_after unread stops.OutOfMemory = unread
-NewFailed before reads reads_after unread stop = ⊥
+abbrev pub NewFailed : Option Schedule → Told → Told → Type 0 → Stop → Type 0
+NewFailed before told told_after unread (stops.ReadFault inputs.Capture) = ReadFailed inputs.Capture told told_after
+NewFailed before told told_after unread (stops.ReadFault inputs.Script) = ReadFailed inputs.Script told told_after
+NewFailed before told told_after unread (stops.Capture offset why) = IsOver (Some (stops.Capture offset why)) before
+NewFailed before told told_after unread (stops.Script line why) = IsOver (Some (stops.Script line why)) before
+NewFailed before told told_after unread stops.OutOfMemory = unread
+NewFailed before told told_after unread stop = ⊥

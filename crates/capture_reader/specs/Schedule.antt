@@ -1,7 +1,9 @@
 -- What happens in a run, and how it ends.
 use Rattle.std.specs.Prelude.{ℕ, zero, suc, List, [], ◌∷◌, drop, Option, Some, None, Ok, Err}
+use Rattle.psd_base.specs.declared.outlet.Input.TheVariants as inputs
 use Rattle.psd_base.specs.declared.stop.Stop.{Stop}
 use Rattle.psd_base.specs.declared.stop.Stop.TheVariants.{TooLong}
+use Rattle.psd_base.specs.Desk.{Told}
 use Rattle.psd_base.specs.Event.{Seen}
 use Rattle.capture_reader.specs.Capture.{Recording, header, records}
 use Rattle.capture_reader.specs.Merge.{merge}
@@ -48,8 +50,8 @@ abbrev pub merged : ℕ → Option Recording → Option Recording → Option Sch
 merged limit records lines = both (λ capture script. cut_recording limit (merge script capture)) records lines
 
 -- the schedule where a desk tells the bytes of both inputs
-abbrev pub schedule_told : ℕ → Option (List ℕ) → Option (List ℕ) → Option Schedule
-schedule_told limit capture_bytes script_bytes = both (schedule limit) capture_bytes script_bytes
+abbrev pub schedule_told : ℕ → Told → Option Schedule
+schedule_told limit told = both (schedule limit) (told.left inputs.Capture) (told.left inputs.Script)
 
 -- the number of ports, or 0 where the header is faulty
 unfoldable pub port_count : List ℕ → ℕ

@@ -3,7 +3,7 @@ use Rattle.std.specs.Prelude.{◌≡◌, ℕ, ◌≤◌, List, [], length, Optio
 use Rattle.psd_base.specs.declared.outlet.Input.TheVariants as inputs
 use Rattle.psd_base.specs.declared.stop.Stop.{Stop}
 use Rattle.psd_base.specs.declared.stop.Stop.TheVariants as stops
-use Rattle.psd_base.specs.Desk.{Rose}
+use Rattle.psd_base.specs.Desk.{ReadFailed, Told}
 use Rattle.psd_base.specs.declared.act.Act.{Act}
 use Rattle.psd_base.specs.declared.event.Event.{Event}
 use Rattle.psd_base.specs.declared.event.What.TheVariants as what
@@ -24,6 +24,9 @@ later ports last offset held left = option_map (records ports last offset 0) (st
 abbrev pub later_of : CaptureSource → Option (List ℕ) → Option Recording
 later_of source left = later source.ports source.tick source.offset source.window left
 
+abbrev pub records_later : CaptureSource → Told → Option Recording
+records_later source told = later_of source (told.left inputs.Capture)
+
 -- an event that was read ahead, and what comes after it
 abbrev pub after_ahead : Option Seen → Recording → Recording
 after_ahead None recording = recording
@@ -41,23 +44,23 @@ abbrev pub IsPartial : ℕ → ℕ → ℕ → Held → Type 0
 IsPartial ports last offset held = (records ports last offset 0 held.bytes).events ≡ []
 
 -- why looking ahead failed: a fault that the bytes show, or a failed read, whose count rose, before a record was whole
-abbrev pub LookFailed : ℕ → ℕ → ℕ → Held → ℕ → ℕ → Stop → Type 0
-LookFailed ports last offset held faults faults_after (stops.ReadFault inputs.Capture) = Rose faults faults_after × IsPartial ports last offset held
-LookFailed ports last offset held faults faults_after (stops.Capture place why) = Ends ports last offset held (Some (stops.Capture place why))
-LookFailed ports last offset held faults faults_after stop = ⊥
+abbrev pub LookFailed : ℕ → ℕ → ℕ → Held → Told → Told → Stop → Type 0
+LookFailed ports last offset held told told_after (stops.ReadFault inputs.Capture) = ReadFailed inputs.Capture told told_after × IsPartial ports last offset held
+LookFailed ports last offset held told told_after (stops.Capture place why) = Ends ports last offset held (Some (stops.Capture place why))
+LookFailed ports last offset held told told_after stop = ⊥
 
-abbrev pub FailedLook : CaptureSource → ℕ → ℕ → Stop → Type 0
-FailedLook source faults faults_after stop = LookFailed source.ports source.tick source.offset source.window faults faults_after stop
+abbrev pub FailedLook : CaptureSource → Told → Told → Stop → Type 0
+FailedLook source told told_after stop = LookFailed source.ports source.tick source.offset source.window told told_after stop
 
 abbrev pub IsCaptureStop : Stop → Type 0
 IsCaptureStop (stops.Capture offset why) = Unit {0}
 IsCaptureStop stop = ⊥
 
 -- why a capture can't be opened: its header is faulty where the desk tells, or a read failed, whose count rose
-abbrev pub OpenFailed : Option (List ℕ) → ℕ → ℕ → Stop → Type 0
-OpenFailed left faults faults_after (stops.ReadFault inputs.Capture) = Rose faults faults_after
-OpenFailed left faults faults_after (stops.Capture place why) = IfSome left (λ bytes. header bytes ≡ Err (stops.Capture place why))
-OpenFailed left faults faults_after stop = ⊥
+abbrev pub OpenFailed : Told → Told → Stop → Type 0
+OpenFailed told told_after (stops.ReadFault inputs.Capture) = ReadFailed inputs.Capture told told_after
+OpenFailed told told_after (stops.Capture place why) = IfSome (told.left inputs.Capture) (λ bytes. header bytes ≡ Err (stops.Capture place why))
+OpenFailed told told_after stop = ⊥
 
 -- the port of a record of this form is one of so many
 abbrev pub IsFormWithin : ℕ → Form → Type 0

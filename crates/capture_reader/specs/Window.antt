@@ -1,8 +1,5 @@
--- The bytes of an input that are taken and not used up, and what reading does to a desk.
-use Rattle.std.specs.Prelude.{◌≡◌, ◌≢◌, ℕ, ◌+◌, ◌≤◌, Bool, true, List, ◌++◌, length, take, Option, None, option_map, position, if◌then◌else◌}
-use Rattle.psd_base.specs.declared.outlet.Input.{Input}
-use Rattle.psd_base.specs.declared.outlet.Input.TheVariants as inputs
-use Rattle.psd_base.specs.declared.outlet.Outlet.{Outlet}
+-- The bytes of an input that are taken and not used up.
+use Rattle.std.specs.Prelude.{◌≡◌, ℕ, ◌+◌, ◌≤◌, Bool, true, List, ◌++◌, length, take, Option, None, option_map, position, if◌then◌else◌}
 use Rattle.capture_reader.specs.declared.line.TheConstants.{LINE_MAX}
 use Rattle.capture_reader.specs.Script.{is_line_feed, first_line}
 
@@ -22,22 +19,6 @@ still held left = option_map (coming held) left
 -- the first begins the second
 abbrev pub Begins : List ℕ → List ℕ → Type 0
 Begins front whole = take (length front) whole ≡ front
-
--- Reads of one input leave the other inputs and all outlets, and no count falls.
-pub record OnlyReads (from : Input) (left left_after : Input → Option (List ℕ)) (sent sent_after : Outlet → Option (List ℕ))
-    (read_faults read_faults_after : Input → ℕ) (write_faults write_faults_after : Outlet → ℕ) : Type 0 where
-  pub other_inputs : (input : Input) → input ≢ from → left_after input ≡ left input
-  pub outlets : (outlet : Outlet) → sent_after outlet ≡ sent outlet
-  pub read_counts : (input : Input) → read_faults input ≤ read_faults_after input
-  pub write_counts : (outlet : Outlet) → write_faults outlet ≤ write_faults_after outlet
-
--- Reads of the capture and the script leave the rules and all outlets, and no count falls.
-pub record ReadsSources (left left_after : Input → Option (List ℕ)) (sent sent_after : Outlet → Option (List ℕ))
-    (read_faults read_faults_after : Input → ℕ) (write_faults write_faults_after : Outlet → ℕ) : Type 0 where
-  pub rules : left_after inputs.Rules ≡ left inputs.Rules
-  pub outlets : (outlet : Outlet) → sent_after outlet ≡ sent outlet
-  pub read_counts : (input : Input) → read_faults input ≤ read_faults_after input
-  pub write_counts : (outlet : Outlet) → write_faults outlet ≤ write_faults_after outlet
 
 -- no whole line with its line feed
 abbrev pub HasNoLine : List ℕ → Type 0

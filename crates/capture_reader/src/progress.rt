@@ -44,12 +44,12 @@ impl Progress {
     ghost use Rattle.std.specs.Prelude.{◌≡◌, ◌≢◌, ◌⊎◌, ℕ, ◌+◌, ◌<◌, ◌≤◌, List, [], true, false, Option, Some, None, Ok, Err};
     ghost use Rattle.std.specs.Prelude.{option_map, IsSome, IfSome, IfNone, IfOk, IfErr, OnOk};
     ghost use Rattle.psd_base.specs.Event.{seen};
-    ghost use Rattle.capture_reader.specs.Lines.{later_lines_of, lines_with_ahead, FailedLineLook};
+    ghost use Rattle.capture_reader.specs.Lines.{lines_later, lines_with_ahead, FailedLineLook};
     ghost use Rattle.capture_reader.specs.Progress.{reading, IsOpened, IsUnread, IsLookedAt, IsSound};
-    ghost use Rattle.capture_reader.specs.Reader.{rest, GivesNext, IsAtEnd, IsInOrder, IsLooked, IsOver, NewFailed, ShowsOver, StopsBecause};
+    ghost use Rattle.capture_reader.specs.Reader.{rest, rest_told, GivesNext, IsAtEnd, IsInOrder, IsLooked, IsOver, NewFailed, ShowsOver, StopsBecause};
     ghost use Rattle.capture_reader.specs.Schedule.{schedule_told, merged, port_count};
-    ghost use Rattle.capture_reader.specs.Source.{later_of, FailedLook};
-    ghost use Rattle.capture_reader.specs.Window.{OnlyReads, ReadsSources};
+    ghost use Rattle.capture_reader.specs.Source.{records_later, FailedLook};
+    ghost use Rattle.psd_base.specs.Desk.{OnlyReads, ReadsSources};
 
     /// Reads the capture's header, looks at the first line of the script, and then at the first record.
     pub fn begin<D: Desk>(
@@ -63,17 +63,14 @@ impl Progress {
         requires script { script ≡ record { bytes = []; ended = false } }
         ensures sound { IfOk result IsSound }
         ensures counts { IfOk result (λ progress. (progress.limit ≡ limit) × (progress.served ≡ 0) × (progress.tick ≡ 0) × (progress.state ≡ State.Waiting)) }
-        ensures ports { IfOk result (λ progress. IfSome (D.left desk.old Input.Capture)
+        ensures ports { IfOk result (λ progress. IfSome ((D.told desk.old).left Input.Capture)
             (λ bytes. port_count bytes ≡ progress.capture.ports)) }
-        ensures rest { IfOk result (λ progress. rest (reading progress) (D.left desk.new Input.Capture) (D.left desk.new Input.Script)
-            ≡ schedule_told limit (D.left desk.old Input.Capture) (D.left desk.old Input.Script)) }
-        ensures looked { OnOk result (IsLooked (schedule_told limit (D.left desk.old Input.Capture) (D.left desk.old Input.Script))) }
-        ensures err { IfErr result (NewFailed (schedule_told limit (D.left desk.old Input.Capture) (D.left desk.old Input.Script))
-            (D.read_faults desk.old) (D.read_faults desk.new) ⊥) }
-        ensures only { ReadsSources
-            (D.left desk.old) (D.left desk.new) (D.sent desk.old) (D.sent desk.new)
-            (D.read_faults desk.old) (D.read_faults desk.new)
-            (D.write_faults desk.old) (D.write_faults desk.new) }
+        ensures rest { IfOk result (λ progress. rest_told (reading progress) (D.told desk.new)
+            ≡ schedule_told limit (D.told desk.old)) }
+        ensures looked { OnOk result (IsLooked (schedule_told limit (D.told desk.old))) }
+        ensures err { IfErr result (NewFailed (schedule_told limit (D.told desk.old))
+            (D.told desk.old) (D.told desk.new) ⊥) }
+        ensures only { ReadsSources (D.told desk.old) (D.told desk.new) }
     {
         match CaptureSource::open(capture, desk) {
             Ok(capture) => {
@@ -97,16 +94,13 @@ impl Progress {
         ensures sound { IfOk result IsSound }
         ensures counts { IfOk result (λ progress. (progress.limit ≡ limit) × (progress.served ≡ 0) × (progress.tick ≡ 0)
             × (progress.state ≡ State.Waiting) × (progress.capture.ports ≡ capture.ports)) }
-        ensures rest { let before = merged limit (later_of capture (D.left desk.old Input.Capture)) (later_lines_of script (D.left desk.old Input.Script)) in
-            IfOk result (λ progress. rest (reading progress) (D.left desk.new Input.Capture) (D.left desk.new Input.Script) ≡ before) }
-        ensures looked { let before = merged limit (later_of capture (D.left desk.old Input.Capture)) (later_lines_of script (D.left desk.old Input.Script)) in
+        ensures rest { let before = merged limit (records_later capture (D.told desk.old)) (lines_later script (D.told desk.old)) in
+            IfOk result (λ progress. rest_told (reading progress) (D.told desk.new) ≡ before) }
+        ensures looked { let before = merged limit (records_later capture (D.told desk.old)) (lines_later script (D.told desk.old)) in
             OnOk result (IsLooked before) }
-        ensures err { let before = merged limit (later_of capture (D.left desk.old Input.Capture)) (later_lines_of script (D.left desk.old Input.Script)) in
-            IfErr result (NewFailed before (D.read_faults desk.old) (D.read_faults desk.new) ⊥) }
-        ensures only { ReadsSources
-            (D.left desk.old) (D.left desk.new) (D.sent desk.old) (D.sent desk.new)
-            (D.read_faults desk.old) (D.read_faults desk.new)
-            (D.write_faults desk.old) (D.write_faults desk.new) }
+        ensures err { let before = merged limit (records_later capture (D.told desk.old)) (lines_later script (D.told desk.old)) in
+            IfErr result (NewFailed before (D.told desk.old) (D.told desk.new) ⊥) }
+        ensures only { ReadsSources (D.told desk.old) (D.told desk.new) }
     {
         let mut script = script;
         match script.look(desk) {
@@ -128,16 +122,13 @@ impl Progress {
         ensures sound { IfOk result IsSound }
         ensures counts { IfOk result (λ progress. (progress.limit ≡ limit) × (progress.served ≡ 0) × (progress.tick ≡ 0)
             × (progress.state ≡ State.Waiting) × (progress.capture.ports ≡ capture.ports)) }
-        ensures rest { (left : Option (List ℕ)) → let before = merged limit (later_of capture (D.left desk.old Input.Capture)) (lines_with_ahead script left) in
-            IfOk result (λ progress. rest (reading progress) (D.left desk.new Input.Capture) left ≡ before) }
-        ensures looked { (left : Option (List ℕ)) → let before = merged limit (later_of capture (D.left desk.old Input.Capture)) (lines_with_ahead script left) in
+        ensures rest { (left : Option (List ℕ)) → let before = merged limit (records_later capture (D.told desk.old)) (lines_with_ahead script left) in
+            IfOk result (λ progress. rest (reading progress) ((D.told desk.new).left Input.Capture) left ≡ before) }
+        ensures looked { (left : Option (List ℕ)) → let before = merged limit (records_later capture (D.told desk.old)) (lines_with_ahead script left) in
             OnOk result (IsLooked before) }
-        ensures err { (left : Option (List ℕ)) → let before = merged limit (later_of capture (D.left desk.old Input.Capture)) (lines_with_ahead script left) in
-            IfErr result (NewFailed before (D.read_faults desk.old) (D.read_faults desk.new) ⊥) }
-        ensures only { OnlyReads Input.Capture
-            (D.left desk.old) (D.left desk.new) (D.sent desk.old) (D.sent desk.new)
-            (D.read_faults desk.old) (D.read_faults desk.new)
-            (D.write_faults desk.old) (D.write_faults desk.new) }
+        ensures err { (left : Option (List ℕ)) → let before = merged limit (records_later capture (D.told desk.old)) (lines_with_ahead script left) in
+            IfErr result (NewFailed before (D.told desk.old) (D.told desk.new) ⊥) }
+        ensures only { OnlyReads Input.Capture (D.told desk.old) (D.told desk.new) }
     {
         let mut capture = capture;
         match capture.look(desk) {
@@ -160,37 +151,34 @@ impl Progress {
         ensures counts { (self.new.limit ≡ self.old.limit) × (self.new.capture.ports ≡ self.old.capture.ports) × (self.old.tick ≤ self.new.tick) }
 
         ensures next { result ≡ Ok true → GivesNext (reading self.new)
-            (rest (reading self.old) (D.left desk.old Input.Capture) (D.left desk.old Input.Script))
-            (rest (reading self.new) (D.left desk.new Input.Capture) (D.left desk.new Input.Script)) }
+            (rest_told (reading self.old) (D.told desk.old))
+            (rest_told (reading self.new) (D.told desk.new)) }
         ensures served { result ≡ Ok true → self.new.served ≡ self.old.served + 1 }
         ensures going { result ≡ Ok true → (reading self.new).stopped ≡ None }
         ensures order { result ≡ Ok true → IfSome (reading self.new).given
             (IsInOrder self.old.tick self.new.tick self.new.capture.ports) }
 
         ensures end { result ≡ Ok false → IsAtEnd (reading self.new) × ShowsOver None (reading self.new)
-            × IsOver None (rest (reading self.old) (D.left desk.old Input.Capture) (D.left desk.old Input.Script)) }
+            × IsOver None (rest_told (reading self.old) (D.told desk.old)) }
         ensures at_end { IsAtEnd (reading self.old) → (result ≡ Ok false) × (self.new ≡ self.old) × (desk.new ≡ desk.old) }
 
         ensures stop { IfErr result (λ stop. (reading self.new).stopped ≡ Some stop) }
         ensures cause { IfErr result (λ stop. ((reading self.old).stopped ≡ Some stop)
-            ⊎ StopsBecause (reading self.new) (rest (reading self.old) (D.left desk.old Input.Capture) (D.left desk.old Input.Script))
-            (D.read_faults desk.old) (D.read_faults desk.new) stop) }
+            ⊎ StopsBecause (reading self.new) (rest_told (reading self.old) (D.told desk.old))
+            (D.told desk.old) (D.told desk.new) stop) }
         ensures stopped { IfSome (reading self.old).stopped
             (λ stop. (result ≡ Err stop) × (self.new ≡ self.old) × (desk.new ≡ desk.old)) }
 
-        ensures rest { result ≢ Ok true → rest (reading self.new) (D.left desk.new Input.Capture) (D.left desk.new Input.Script)
-            ≡ rest (reading self.old) (D.left desk.old Input.Capture) (D.left desk.old Input.Script) }
+        ensures rest { result ≢ Ok true → rest_told (reading self.new) (D.told desk.new)
+            ≡ rest_told (reading self.old) (D.told desk.old) }
         ensures stays { result ≢ Ok true → ((reading self.new).given ≡ None) × (self.new.served ≡ self.old.served) }
 
         ensures unread_capture { self.old.capture.window.ended ≡ true → (self.new.capture.window.ended ≡ true)
-            × (D.left desk.new Input.Capture ≡ D.left desk.old Input.Capture) }
+            × ((D.told desk.new).left Input.Capture ≡ (D.told desk.old).left Input.Capture) }
         ensures unread_script { self.old.script.window.ended ≡ true → (self.new.script.window.ended ≡ true)
-            × (D.left desk.new Input.Script ≡ D.left desk.old Input.Script) }
+            × ((D.told desk.new).left Input.Script ≡ (D.told desk.old).left Input.Script) }
         ensures unread { self.old.capture.window.ended ≡ true → self.old.script.window.ended ≡ true → desk.new ≡ desk.old }
-        ensures only { ReadsSources
-            (D.left desk.old) (D.left desk.new) (D.sent desk.old) (D.sent desk.new)
-            (D.read_faults desk.old) (D.read_faults desk.new)
-            (D.write_faults desk.old) (D.write_faults desk.new) }
+        ensures only { ReadsSources (D.told desk.old) (D.told desk.new) }
     {
         match &self.state {
             State::Stopped(stop) => Err(again(stop)),
@@ -213,16 +201,13 @@ impl Progress {
         ensures sound { IsSound self.new }
         ensures counts { (self.new.limit ≡ self.old.limit) × (self.new.served ≡ self.old.served) × (self.new.tick ≡ self.old.tick)
             × (self.new.capture.ports ≡ self.old.capture.ports) × (self.new.script ≡ self.old.script) }
-        ensures rest { (left : Option (List ℕ)) → rest (reading self.new) (D.left desk.new Input.Capture) left
-            ≡ rest (reading self.old) (D.left desk.old Input.Capture) left }
+        ensures rest { (left : Option (List ℕ)) → rest (reading self.new) ((D.told desk.new).left Input.Capture) left
+            ≡ rest (reading self.old) ((D.told desk.old).left Input.Capture) left }
         ensures unread { self.old.capture.window.ended ≡ true → (self.new.capture.window.ended ≡ true) × (desk.new ≡ desk.old) }
         ensures ok { OnOk result (self.new.state ≡ State.Waiting) }
         ensures err { IfErr result (λ stop. (self.new.state ≡ State.Stopped stop) × (self.new.capture.ahead ≡ None)
-            × FailedLook self.new.capture (D.read_faults desk.old Input.Capture) (D.read_faults desk.new Input.Capture) stop) }
-        ensures only { OnlyReads Input.Capture
-            (D.left desk.old) (D.left desk.new) (D.sent desk.old) (D.sent desk.new)
-            (D.read_faults desk.old) (D.read_faults desk.new)
-            (D.write_faults desk.old) (D.write_faults desk.new) }
+            × FailedLook self.new.capture (D.told desk.old) (D.told desk.new) stop) }
+        ensures only { OnlyReads Input.Capture (D.told desk.old) (D.told desk.new) }
     {
         match self.capture.look(desk) {
             Ok(()) => {
@@ -244,16 +229,13 @@ impl Progress {
         ensures sound { IsSound self.new }
         ensures counts { (self.new.limit ≡ self.old.limit) × (self.new.served ≡ self.old.served) × (self.new.tick ≡ self.old.tick)
             × (self.new.capture ≡ self.old.capture) }
-        ensures rest { (left : Option (List ℕ)) → rest (reading self.new) left (D.left desk.new Input.Script)
-            ≡ rest (reading self.old) left (D.left desk.old Input.Script) }
+        ensures rest { (left : Option (List ℕ)) → rest (reading self.new) left ((D.told desk.new).left Input.Script)
+            ≡ rest (reading self.old) left ((D.told desk.old).left Input.Script) }
         ensures unread { self.old.script.window.ended ≡ true → (self.new.script.window.ended ≡ true) × (desk.new ≡ desk.old) }
         ensures ok { OnOk result (self.new.state ≡ State.Waiting) }
         ensures err { IfErr result (λ stop. (self.new.state ≡ State.Stopped stop) × (self.new.script.ahead ≡ None)
-            × FailedLineLook self.new.script (D.read_faults desk.old Input.Script) (D.read_faults desk.new Input.Script) stop) }
-        ensures only { OnlyReads Input.Script
-            (D.left desk.old) (D.left desk.new) (D.sent desk.old) (D.sent desk.new)
-            (D.read_faults desk.old) (D.read_faults desk.new)
-            (D.write_faults desk.old) (D.write_faults desk.new) }
+            × FailedLineLook self.new.script (D.told desk.old) (D.told desk.new) stop) }
+        ensures only { OnlyReads Input.Script (D.told desk.old) (D.told desk.new) }
     {
         match self.script.look(desk) {
             Ok(()) => {

@@ -2,9 +2,9 @@
 ghost use Rattle.std.specs.Prelude.{◌≡◌, ◌≢◌, ◌⊎◌, ◌+◌, ◌≤◌, [], true, false, Some, None, Ok, Err};
 ghost use Rattle.std.specs.Prelude.{IsSome, IfOk, IfSome, IfErr, OnOk};
 ghost use Rattle.psd_base.specs.Event.{seen};
-ghost use Rattle.capture_reader.specs.Reader.{rest, GivesNext, IsAtEnd, IsOver, ShowsOver, StopsBecause, NewFailed, IsInOrder, IsLooked};
+ghost use Rattle.capture_reader.specs.Reader.{rest_told, GivesNext, IsAtEnd, IsOver, ShowsOver, StopsBecause, NewFailed, IsInOrder, IsLooked};
 ghost use Rattle.capture_reader.specs.Schedule.{schedule_told, port_count};
-ghost use Rattle.capture_reader.specs.Window.{ReadsSources};
+ghost use Rattle.psd_base.specs.Desk.{ReadsSources};
 
 use crate::progress::Progress;
 use crate::window::Window;
@@ -37,21 +37,18 @@ impl Reader {
     /// which no event comes, a read that failed, or want of memory, before any read.
     pub fn new<D: Desk>(alloc: Global, desk: &mut D, limit: u32) -> Result<Reader, Stop>
         requires { limit ≤ EVENTS_MAX }
-        ensures rest { IfOk result (λ reader. rest reader (D.left desk.new Input.Capture) (D.left desk.new Input.Script)
-            ≡ schedule_told limit (D.left desk.old Input.Capture) (D.left desk.old Input.Script)) }
-        ensures ports { IfOk result (λ reader. IfSome (D.left desk.old Input.Capture) (λ bytes. port_count bytes ≡ reader.ports)
+        ensures rest { IfOk result (λ reader. rest_told reader (D.told desk.new)
+            ≡ schedule_told limit (D.told desk.old)) }
+        ensures ports { IfOk result (λ reader. IfSome ((D.told desk.old).left Input.Capture) (λ bytes. port_count bytes ≡ reader.ports)
             × (2 ≤ reader.ports) × (reader.ports ≤ MAX_PORTS)) }
         ensures fresh { IfOk result (λ reader. (reader.limit ≡ limit) × (reader.served ≡ 0)
             × (reader.given ≡ None) × (reader.stopped ≡ None)) }
 
         // No reader where a source is faulty and no event comes.
-        ensures looked { OnOk result (IsLooked (schedule_told limit (D.left desk.old Input.Capture) (D.left desk.old Input.Script))) }
-        ensures err { IfErr result (NewFailed (schedule_told limit (D.left desk.old Input.Capture) (D.left desk.old Input.Script))
-            (D.read_faults desk.old) (D.read_faults desk.new) (desk.new ≡ desk.old)) }
-        ensures desk { ReadsSources
-            (D.left desk.old) (D.left desk.new) (D.sent desk.old) (D.sent desk.new)
-            (D.read_faults desk.old) (D.read_faults desk.new)
-            (D.write_faults desk.old) (D.write_faults desk.new) }
+        ensures looked { OnOk result (IsLooked (schedule_told limit (D.told desk.old))) }
+        ensures err { IfErr result (NewFailed (schedule_told limit (D.told desk.old))
+            (D.told desk.old) (D.told desk.new) (desk.new ≡ desk.old)) }
+        ensures desk { ReadsSources (D.told desk.old) (D.told desk.new) }
     {
         match buffers(alloc) {
             Ok((capture, script)) => match Progress::begin(capture, script, desk, limit) {
@@ -85,8 +82,8 @@ impl Reader {
     pub fn advance<D: Desk>(&mut self, desk: &mut D) -> Result<bool, Stop>
         // There is an event: the next of those that were to come.
         ensures next { result ≡ Ok true → GivesNext self.new
-            (rest self.old (D.left desk.old Input.Capture) (D.left desk.old Input.Script))
-            (rest self.new (D.left desk.new Input.Capture) (D.left desk.new Input.Script)) }
+            (rest_told self.old (D.told desk.old))
+            (rest_told self.new (D.told desk.new)) }
         ensures served { result ≡ Ok true → self.new.served ≡ self.old.served + 1 }
         ensures going { result ≡ Ok true → self.new.stopped ≡ None }
         ensures within { self.new.served ≤ self.new.limit }
@@ -94,33 +91,30 @@ impl Reader {
 
         // There is none, at this call and at each later one.
         ensures end { result ≡ Ok false → IsAtEnd self.new × ShowsOver None self.new
-            × IsOver None (rest self.old (D.left desk.old Input.Capture) (D.left desk.old Input.Script)) }
+            × IsOver None (rest_told self.old (D.told desk.old)) }
         ensures at_end { IsAtEnd self.old → (result ≡ Ok false) × (self.new ≡ self.old) × (desk.new ≡ desk.old) }
 
         // It stops, at this call or an earlier one.
         ensures stop { IfErr result (λ stop. self.new.stopped ≡ Some stop) }
         ensures cause { IfErr result (λ stop. (self.old.stopped ≡ Some stop)
-            ⊎ StopsBecause self.new (rest self.old (D.left desk.old Input.Capture) (D.left desk.old Input.Script))
-            (D.read_faults desk.old) (D.read_faults desk.new) stop) }
+            ⊎ StopsBecause self.new (rest_told self.old (D.told desk.old))
+            (D.told desk.old) (D.told desk.new) stop) }
         ensures stopped { IfSome self.old.stopped (λ stop. (result ≡ Err stop) × (self.new ≡ self.old) × (desk.new ≡ desk.old)) }
 
         // Without an event nothing is lost.
-        ensures rest { result ≢ Ok true → rest self.new (D.left desk.new Input.Capture) (D.left desk.new Input.Script)
-            ≡ rest self.old (D.left desk.old Input.Capture) (D.left desk.old Input.Script) }
+        ensures rest { result ≢ Ok true → rest_told self.new (D.told desk.new)
+            ≡ rest_told self.old (D.told desk.old) }
         ensures stays { result ≢ Ok true → (self.new.given ≡ None) × (self.new.served ≡ self.old.served) }
 
         // Behind the end of a source it isn't read.
         ensures unread_capture { self.old.capture.held.ended ≡ true → (self.new.capture.held.ended ≡ true)
-            × (D.left desk.new Input.Capture ≡ D.left desk.old Input.Capture) }
+            × ((D.told desk.new).left Input.Capture ≡ (D.told desk.old).left Input.Capture) }
         ensures unread_script { self.old.script.held.ended ≡ true → (self.new.script.held.ended ≡ true)
-            × (D.left desk.new Input.Script ≡ D.left desk.old Input.Script) }
+            × ((D.told desk.new).left Input.Script ≡ (D.told desk.old).left Input.Script) }
         ensures unread { self.old.capture.held.ended ≡ true → self.old.script.held.ended ≡ true → desk.new ≡ desk.old }
 
         ensures counts { (self.new.limit ≡ self.old.limit) × (self.new.ports ≡ self.old.ports) × (self.old.tick ≤ self.new.tick) }
-        ensures desk { ReadsSources
-            (D.left desk.old) (D.left desk.new) (D.sent desk.old) (D.sent desk.new)
-            (D.read_faults desk.old) (D.read_faults desk.new)
-            (D.write_faults desk.old) (D.write_faults desk.new) }
+        ensures desk { ReadsSources (D.told desk.old) (D.told desk.new) }
     {
         self.progress.advance(desk)
     }

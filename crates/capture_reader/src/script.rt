@@ -21,10 +21,11 @@ impl ScriptSource {
     ghost use Rattle.std.specs.Prelude.{IfOk, IfErr, IfSome, IfNone, IsSomeAnd, OnOk, OnErr};
     ghost use Rattle.psd_base.specs.Event.{seen};
     ghost use Rattle.capture_reader.specs.Capture.{first};
-    ghost use Rattle.capture_reader.specs.Lines.{later_lines_of, LinesEndNow, FailedLineLook, IsNextLine, LineLookFailed};
+    ghost use Rattle.capture_reader.specs.Lines.{lines_later, LinesEndNow, FailedLineLook, IsNextLine, LineLookFailed};
     ghost use Rattle.capture_reader.specs.Script.{lines};
     ghost use Rattle.capture_reader.specs.Source.{after_ahead};
-    ghost use Rattle.capture_reader.specs.Window.{coming, FrontLine, OnlyReads};
+    ghost use Rattle.psd_base.specs.Desk.{OnlyReads, Told};
+    ghost use Rattle.capture_reader.specs.Window.{coming, FrontLine};
 
     /// A script of which nothing was read.
     pub fn new(window: Window, ports: u8) -> ScriptSource
@@ -46,22 +47,18 @@ impl ScriptSource {
         ensures tick { self.old.tick ≤ self.new.tick }
         ensures line { self.new.line ≤ self.old.line + 1 }
 
-        ensures read { OnOk result (later_lines_of self.old (D.left desk.old Input.Script)
-            ≡ option_map (after_ahead (option_map seen self.new.ahead)) (later_lines_of self.new (D.left desk.new Input.Script))) }
+        ensures read { OnOk result (lines_later self.old (D.told desk.old)
+            ≡ option_map (after_ahead (option_map seen self.new.ahead)) (lines_later self.new (D.told desk.new))) }
         ensures ahead { OnOk result (IfSome self.new.ahead (IsNextLine self.new)) }
         ensures end { OnOk result (IfNone self.new.ahead (LinesEndNow self.new None)) }
 
-        ensures err { IfErr result (FailedLineLook self.new
-            (D.read_faults desk.old Input.Script) (D.read_faults desk.new Input.Script)) }
-        ensures stays { OnErr result (later_lines_of self.new (D.left desk.new Input.Script)
-            ≡ later_lines_of self.old (D.left desk.old Input.Script)) }
+        ensures err { IfErr result (FailedLineLook self.new (D.told desk.old) (D.told desk.new)) }
+        ensures stays { OnErr result (lines_later self.new (D.told desk.new)
+            ≡ lines_later self.old (D.told desk.old)) }
         ensures unread { self.old.window.ended ≡ true → (self.new.window.ended ≡ true) × (desk.new ≡ desk.old) }
         ensures none { OnErr result (self.new.ahead ≡ None) }
 
-        ensures only { OnlyReads Input.Script
-            (D.left desk.old) (D.left desk.new) (D.sent desk.old) (D.sent desk.new)
-            (D.read_faults desk.old) (D.read_faults desk.new)
-            (D.write_faults desk.old) (D.write_faults desk.new) }
+        ensures only { OnlyReads Input.Script (D.told desk.old) (D.told desk.new) }
     {
         self.ahead = None;
         match self.window.hold_line(desk, Input::Script) {
@@ -83,7 +80,7 @@ impl ScriptSource {
             ≡ after_ahead (option_map seen self.new.ahead) (lines self.new.ports self.new.tick self.new.line 0 (coming self.new.window left))) }
         ensures ahead { OnOk result (IfSome self.new.ahead (IsNextLine self.new)) }
         ensures end { OnOk result (IfNone self.new.ahead (LinesEndNow self.new None)) }
-        ensures err { (before after : ℕ) → IfErr result (FailedLineLook self.new before after) }
+        ensures err { (before after : Told) → IfErr result (FailedLineLook self.new before after) }
         ensures same { OnErr result (self.new ≡ self.old) }
     {
         if self.window.len() == 0 {

@@ -21,23 +21,20 @@ impl CaptureSource {
     ghost use Rattle.std.specs.Prelude.{IfOk, IfErr, IfSome, IfNone, IsSomeAnd, OnOk, OnErr};
     ghost use Rattle.psd_base.specs.Event.{seen};
     ghost use Rattle.capture_reader.specs.Capture.{header, first, size_of, records};
-    ghost use Rattle.capture_reader.specs.Source.{later, later_of, after_ahead, AnnouncesNext, EndsNow, FailedLook, IsCaptureStop, IsNext, LookFailed, OpenFailed};
-    ghost use Rattle.capture_reader.specs.Window.{coming, still, OnlyReads};
+    ghost use Rattle.capture_reader.specs.Source.{later, records_later, after_ahead, AnnouncesNext, EndsNow, FailedLook, IsCaptureStop, IsNext, LookFailed, OpenFailed};
+    ghost use Rattle.psd_base.specs.Desk.{OnlyReads, Told};
+    ghost use Rattle.capture_reader.specs.Window.{coming, still};
 
     /// Reads the header of a capture.
     pub fn open<D: Desk>(window: Window, desk: &mut D) -> Result<CaptureSource, Stop>
         requires { window ≡ record { bytes = []; ended = false } }
         ensures ports { IfOk result (λ source. (2 ≤ source.ports) × (source.ports ≤ MAX_PORTS)) }
         ensures begin { IfOk result (λ source. (source.tick ≡ 0) × (source.offset ≡ 8) × (source.ahead ≡ None)) }
-        ensures header { IfOk result (λ source. IfSome (D.left desk.old Input.Capture) (λ bytes. header bytes ≡ Ok source.ports)) }
-        ensures records { IfOk result (λ source. option_map (λ bytes. records source.ports 0 8 0 (drop 8 bytes)) (D.left desk.old Input.Capture)
-            ≡ later source.ports 0 8 source.window (D.left desk.new Input.Capture)) }
-        ensures err { IfErr result (OpenFailed (D.left desk.old Input.Capture)
-            (D.read_faults desk.old Input.Capture) (D.read_faults desk.new Input.Capture)) }
-        ensures only { OnlyReads Input.Capture
-            (D.left desk.old) (D.left desk.new) (D.sent desk.old) (D.sent desk.new)
-            (D.read_faults desk.old) (D.read_faults desk.new)
-            (D.write_faults desk.old) (D.write_faults desk.new) }
+        ensures header { IfOk result (λ source. IfSome ((D.told desk.old).left Input.Capture) (λ bytes. header bytes ≡ Ok source.ports)) }
+        ensures records { IfOk result (λ source. option_map (λ bytes. records source.ports 0 8 0 (drop 8 bytes)) ((D.told desk.old).left Input.Capture)
+            ≡ later source.ports 0 8 source.window ((D.told desk.new).left Input.Capture)) }
+        ensures err { IfErr result (OpenFailed (D.told desk.old) (D.told desk.new)) }
+        ensures only { OnlyReads Input.Capture (D.told desk.old) (D.told desk.new) }
     {
         let mut window = window;
         match window.hold(desk, Input::Capture, HEAD_SIZE) {
@@ -83,22 +80,18 @@ impl CaptureSource {
         ensures tick { self.old.tick ≤ self.new.tick }
         ensures offset { self.new.offset ≤ self.old.offset + WINDOW_SIZE }
 
-        ensures read { OnOk result (later_of self.old (D.left desk.old Input.Capture)
-            ≡ option_map (after_ahead (option_map seen self.new.ahead)) (later_of self.new (D.left desk.new Input.Capture))) }
+        ensures read { OnOk result (records_later self.old (D.told desk.old)
+            ≡ option_map (after_ahead (option_map seen self.new.ahead)) (records_later self.new (D.told desk.new))) }
         ensures ahead { OnOk result (IfSome self.new.ahead (IsNext self.new)) }
         ensures end { OnOk result (IfNone self.new.ahead (EndsNow self.new None)) }
 
-        ensures err { IfErr result (FailedLook self.new
-            (D.read_faults desk.old Input.Capture) (D.read_faults desk.new Input.Capture)) }
-        ensures stays { OnErr result (later_of self.new (D.left desk.new Input.Capture)
-            ≡ later_of self.old (D.left desk.old Input.Capture)) }
+        ensures err { IfErr result (FailedLook self.new (D.told desk.old) (D.told desk.new)) }
+        ensures stays { OnErr result (records_later self.new (D.told desk.new)
+            ≡ records_later self.old (D.told desk.old)) }
         ensures unread { self.old.window.ended ≡ true → (self.new.window.ended ≡ true) × (desk.new ≡ desk.old) }
         ensures none { OnErr result (self.new.ahead ≡ None) }
 
-        ensures only { OnlyReads Input.Capture
-            (D.left desk.old) (D.left desk.new) (D.sent desk.old) (D.sent desk.new)
-            (D.read_faults desk.old) (D.read_faults desk.new)
-            (D.write_faults desk.old) (D.write_faults desk.new) }
+        ensures only { OnlyReads Input.Capture (D.told desk.old) (D.told desk.new) }
     {
         match self.window.hold(desk, Input::Capture, HEAD_SIZE) {
             Ok(true) => match self.look_at_head(desk) {
@@ -128,18 +121,15 @@ impl CaptureSource {
         ensures tick { self.old.tick ≤ self.new.tick }
         ensures offset { self.new.offset ≤ self.old.offset + WINDOW_SIZE }
         ensures ok { OnOk result (IsSomeAnd self.new.ahead (λ event. IsNext self.new event
-            × (later_of self.old (D.left desk.old Input.Capture)
-            ≡ option_map (first (seen event)) (later_of self.new (D.left desk.new Input.Capture))))) }
+            × (records_later self.old (D.told desk.old)
+            ≡ option_map (first (seen event)) (records_later self.new (D.told desk.new))))) }
         ensures err { IfErr result (LookFailed self.old.ports self.old.tick self.old.offset self.new.window
-            (D.read_faults desk.old Input.Capture) (D.read_faults desk.new Input.Capture)) }
+            (D.told desk.old) (D.told desk.new)) }
         ensures same { OnErr result (self.new ≡ record self.old { window = self.new.window }) }
-        ensures stays { OnErr result (later_of self.new (D.left desk.new Input.Capture)
-            ≡ later_of self.old (D.left desk.old Input.Capture)) }
+        ensures stays { OnErr result (records_later self.new (D.told desk.new)
+            ≡ records_later self.old (D.told desk.old)) }
         ensures unread { self.old.window.ended ≡ true → (self.new.window.ended ≡ true) × (desk.new ≡ desk.old) }
-        ensures only { OnlyReads Input.Capture
-            (D.left desk.old) (D.left desk.new) (D.sent desk.old) (D.sent desk.new)
-            (D.read_faults desk.old) (D.read_faults desk.new)
-            (D.write_faults desk.old) (D.write_faults desk.new) }
+        ensures only { OnlyReads Input.Capture (D.told desk.old) (D.told desk.new) }
     {
         let head = read_head(self.window.bytes());
         match announce(self.ports, self.tick, &head) {
@@ -161,18 +151,15 @@ impl CaptureSource {
         ensures tick { self.old.tick ≤ self.new.tick }
         ensures offset { self.new.offset ≤ self.old.offset + WINDOW_SIZE }
         ensures ok { OnOk result (IsSomeAnd self.new.ahead (λ event. IsNext self.new event
-            × (later_of self.old (D.left desk.old Input.Capture)
-            ≡ option_map (first (seen event)) (later_of self.new (D.left desk.new Input.Capture))))) }
+            × (records_later self.old (D.told desk.old)
+            ≡ option_map (first (seen event)) (records_later self.new (D.told desk.new))))) }
         ensures err { IfErr result (LookFailed self.old.ports self.old.tick self.old.offset self.new.window
-            (D.read_faults desk.old Input.Capture) (D.read_faults desk.new Input.Capture)) }
+            (D.told desk.old) (D.told desk.new)) }
         ensures same { OnErr result (self.new ≡ record self.old { window = self.new.window }) }
-        ensures stays { OnErr result (later_of self.new (D.left desk.new Input.Capture)
-            ≡ later_of self.old (D.left desk.old Input.Capture)) }
+        ensures stays { OnErr result (records_later self.new (D.told desk.new)
+            ≡ records_later self.old (D.told desk.old)) }
         ensures unread { self.old.window.ended ≡ true → (self.new.window.ended ≡ true) × (desk.new ≡ desk.old) }
-        ensures only { OnlyReads Input.Capture
-            (D.left desk.old) (D.left desk.new) (D.sent desk.old) (D.sent desk.new)
-            (D.read_faults desk.old) (D.read_faults desk.new)
-            (D.write_faults desk.old) (D.write_faults desk.new) }
+        ensures only { OnlyReads Input.Capture (D.told desk.old) (D.told desk.new) }
     {
         let size = HEAD_SIZE + head.length as usize;
         match self.window.hold(desk, Input::Capture, size) {
@@ -187,7 +174,7 @@ impl CaptureSource {
         requires ended { self.now.window.ended ≡ true }
         requires short { length self.now.window.bytes < 8 }
         ensures ok { OnOk result (EndsNow self.now None) }
-        ensures err { (before after : ℕ) → IfErr result (FailedLook self.now before after) }
+        ensures err { (before after : Told) → IfErr result (FailedLook self.now before after) }
     {
         if self.window.len() == 0 {
             return Ok(());
@@ -217,7 +204,7 @@ impl CaptureSource {
         ensures ahead { OnOk result (IsSomeAnd self.new.ahead (λ event. IsNext self.new event
             × ((left : List ℕ) → records self.old.ports self.old.tick self.old.offset 0 (coming self.old.window left)
             ≡ first (seen event) (records self.new.ports self.new.tick self.new.offset 0 (coming self.new.window left))))) }
-        ensures err { (before after : ℕ) → IfErr result
+        ensures err { (before after : Told) → IfErr result
             (LookFailed self.old.ports self.old.tick self.old.offset self.new.window before after) }
         ensures same { OnErr result (self.new ≡ self.old) }
     {

@@ -1,8 +1,8 @@
 //! The bytes that were taken of an input and are not used up.
 ghost use Rattle.std.specs.Prelude.{◌≡◌, ◌⊎◌, ◌+◌, ◌-◌, ◌<◌, ◌≤◌, List, [], ◌++◌, length, take, drop, true, false, option_map, Ok, IfOk, IfSome, IfNone, OnOk, OnErr, position, slice_range};
-ghost use Rattle.psd_base.specs.Desk.{Rose};
+ghost use Rattle.psd_base.specs.Desk.{OnlyReads, ReadFailed};
 ghost use Rattle.capture_reader.specs.Script.{is_line_feed};
-ghost use Rattle.capture_reader.specs.Window.{Held, still, Begins, FrontLine, HasNoLine, OnlyReads};
+ghost use Rattle.capture_reader.specs.Window.{Held, still, Begins, FrontLine, HasNoLine};
 
 use crate::line::LINE_MAX;
 use psd_base::{Desk, DeskFailed, Input};
@@ -89,17 +89,14 @@ impl Window {
         count: usize,
     ) -> Result<bool, DeskFailed>
         requires { count ≤ WINDOW_SIZE }
-        ensures still { still self.new (D.left desk.new from) ≡ still self.old (D.left desk.old from) }
+        ensures still { still self.new ((D.told desk.new).left from) ≡ still self.old ((D.told desk.old).left from) }
         ensures front { Begins self.old.bytes self.new.bytes }
         ensures held { result ≡ Ok true → count ≤ length self.new.bytes }
         ensures ended { result ≡ Ok false → (self.new.ended ≡ true) × (length self.new.bytes < count) }
         ensures short { OnErr result (length self.new.bytes < count) }
         ensures unread { self.old.ended ≡ true → (self.new ≡ self.old) × (desk.new ≡ desk.old) }
-        ensures failed { OnErr result (Rose (D.read_faults desk.old from) (D.read_faults desk.new from)) }
-        ensures only { OnlyReads from
-            (D.left desk.old) (D.left desk.new) (D.sent desk.old) (D.sent desk.new)
-            (D.read_faults desk.old) (D.read_faults desk.new)
-            (D.write_faults desk.old) (D.write_faults desk.new) }
+        ensures failed { OnErr result (ReadFailed from (D.told desk.old) (D.told desk.new)) }
+        ensures only { OnlyReads from (D.told desk.old) (D.told desk.new) }
     {
         'reads: while self.len() < count {
             if self.has_ended() {
@@ -113,15 +110,12 @@ impl Window {
     /// Reads on until the first line is held, or one byte more than the most of a line, or the end of the input is met.
     /// Answers how many bytes the line has. It reads no further than it must, and a read that failed leaves what is held.
     pub fn hold_line<D: Desk>(&mut self, desk: &mut D, from: Input) -> Result<usize, DeskFailed>
-        ensures still { still self.new (D.left desk.new from) ≡ still self.old (D.left desk.old from) }
+        ensures still { still self.new ((D.told desk.new).left from) ≡ still self.old ((D.told desk.old).left from) }
         ensures line { IfOk result (FrontLine self.new) }
         ensures part { OnErr result (HasNoLine self.new.bytes) }
         ensures unread { self.old.ended ≡ true → (self.new ≡ self.old) × (desk.new ≡ desk.old) }
-        ensures failed { OnErr result (Rose (D.read_faults desk.old from) (D.read_faults desk.new from)) }
-        ensures only { OnlyReads from
-            (D.left desk.old) (D.left desk.new) (D.sent desk.old) (D.sent desk.new)
-            (D.read_faults desk.old) (D.read_faults desk.new)
-            (D.write_faults desk.old) (D.write_faults desk.new) }
+        ensures failed { OnErr result (ReadFailed from (D.told desk.old) (D.told desk.new)) }
+        ensures only { OnlyReads from (D.told desk.old) (D.told desk.new) }
     {
         'reads: loop {
             match line_size(self.bytes(), self.ended) {
@@ -146,15 +140,12 @@ impl Window {
     fn refill<D: Desk>(&mut self, desk: &mut D, from: Input) -> Result<(), DeskFailed>
         requires room { length self.old.bytes < WINDOW_SIZE }
         requires open { self.old.ended ≡ false }
-        ensures still { still self.new (D.left desk.new from) ≡ still self.old (D.left desk.old from) }
+        ensures still { still self.new ((D.told desk.new).left from) ≡ still self.old ((D.told desk.old).left from) }
         ensures front { Begins self.old.bytes self.new.bytes }
         ensures more { OnOk result (self.new.ended ≡ false → length self.old.bytes < length self.new.bytes) }
         ensures same { OnErr result (self.new ≡ self.old) }
-        ensures failed { OnErr result (Rose (D.read_faults desk.old from) (D.read_faults desk.new from)) }
-        ensures only { OnlyReads from
-            (D.left desk.old) (D.left desk.new) (D.sent desk.old) (D.sent desk.new)
-            (D.read_faults desk.old) (D.read_faults desk.new)
-            (D.write_faults desk.old) (D.write_faults desk.new) }
+        ensures failed { OnErr result (ReadFailed from (D.told desk.old) (D.told desk.new)) }
+        ensures only { OnlyReads from (D.told desk.old) (D.told desk.new) }
     {
         let held = self.end - self.start;
         move_to_front(&mut self.buffer, self.start, self.end);
@@ -211,14 +202,11 @@ pub fn read_behind<D: Desk>(
     requires { end < length buffer.old }
     ensures kept { take end buffer.new ≡ take end buffer.old }
     ensures within { IfOk result (λ count. end + count ≤ length buffer.old) }
-    ensures moved { IfOk result (λ count. D.left desk.old from ≡ option_map (λ rest. slice_range buffer.new end (end + count) ++ rest) (D.left desk.new from)) }
-    ensures ended { result ≡ Ok 0 → IfSome (D.left desk.old from) (λ rest. rest ≡ []) }
-    ensures stays { OnErr result (D.left desk.new from ≡ D.left desk.old from) }
-    ensures failed { OnErr result (Rose (D.read_faults desk.old from) (D.read_faults desk.new from)) }
-    ensures only { OnlyReads from
-        (D.left desk.old) (D.left desk.new) (D.sent desk.old) (D.sent desk.new)
-        (D.read_faults desk.old) (D.read_faults desk.new)
-        (D.write_faults desk.old) (D.write_faults desk.new) }
+    ensures moved { IfOk result (λ count. (D.told desk.old).left from ≡ option_map (λ rest. slice_range buffer.new end (end + count) ++ rest) ((D.told desk.new).left from)) }
+    ensures ended { result ≡ Ok 0 → IfSome ((D.told desk.old).left from) (λ rest. rest ≡ []) }
+    ensures stays { OnErr result ((D.told desk.new).left from ≡ (D.told desk.old).left from) }
+    ensures failed { OnErr result (ReadFailed from (D.told desk.old) (D.told desk.new)) }
+    ensures only { OnlyReads from (D.told desk.old) (D.told desk.new) }
 {
     desk.read(from, &mut buffer[end..])
 }

@@ -1,6 +1,6 @@
 -- A replay that goes on, ends or stops.
 use Rattle.std.proofs.Common.{◌≡◌, ℕ, ◌+◌, ◌≤◌, inl, inr, List, [], ◌∷◌, ◌++◌, length, Option, Some, None, option_map, IfSome, refl, sym, ap, ◌∙◌, subst, arith}
-use Rattle.psd_base.specs.Desk.{IsAppendedPart, Rose}
+use Rattle.psd_base.specs.Desk.{IsAppendedPart, Rose, Told}
 use Rattle.psd_base.specs.declared.outlet.Input.{Input}
 use Rattle.psd_base.specs.Event.{Seen}
 use Rattle.psd_base.specs.History.{onto}
@@ -34,22 +34,22 @@ whole_of-step : (coming now later : Option Schedule) (past : List Seen) (event :
 whole_of-step coming now later past event next whole = whole ∙ (ap (option_map (whole_of past)) next ∙ whole_of-in_front past event later)
 
 -- the next event was served
-pub Progress-more : (coming now later : Option Schedule) (sent sent_now sent_later : Outlet → Option (List ℕ)) (switch switch_later : Switch) (tally tally_later : Tally) (event : Seen)
-    (so_far : Progress coming now sent sent_now switch tally)
+pub Progress-more : (coming now later : Option Schedule) (start desk desk_after : Told) (switch switch_later : Switch) (tally tally_later : Tally) (event : Seen)
+    (so_far : Progress coming now start desk switch tally)
     → now ≡ option_map (in_front event) later
     → StandsFor switch_later (event ∷ so_far.past)
-    → ((to : Outlet) → Grew (sent_now to) (sent_later to) (step_text to event so_far.past))
+    → ((to : Outlet) → Grew (desk.sent to) (desk_after.sent to) (step_text to event so_far.past))
     → Counts tally_later (event ∷ so_far.past)
     → switch_later.served ≡ switch.served + 1
-    → Progress coming later sent sent_later switch_later tally_later
-Progress-more coming now later sent sent_now sent_later switch switch_later tally tally_later event so_far next stands wrote counted served =
+    → Progress coming later start desk_after switch_later tally_later
+Progress-more coming now later start desk desk_after switch switch_later tally tally_later event so_far next stands wrote counted served =
     let past = so_far.past in
     record {
       past = event ∷ past;
       stands = stands;
       whole = whole_of-step coming now later past event next so_far.whole;
-      written = λ to. subst (λ (text : List ℕ). Grew (sent to) (sent_later to) text) (sym (text_after-step to event past))
-          (Grew-more (sent to) (sent_now to) (sent_later to) _ _ (so_far.written to) (wrote to));
+      written = λ to. subst (λ (text : List ℕ). Grew (start.sent to) (desk_after.sent to) text) (sym (text_after-step to event past))
+          (Grew-more (start.sent to) (desk.sent to) (desk_after.sent to) _ _ (so_far.written to) (wrote to));
       counted = counted;
       served = let one : length (event ∷ past) ≡ length past + 1 = omega arith in one ∙ (ap (λ (n : ℕ). n + 1) so_far.served ∙ sym served);
     }
@@ -66,11 +66,11 @@ stop_is : (schedule : Schedule) (now : Option Schedule) (past : List Seen) (late
 stop_is schedule now past later whole is = let same : whole_of [] schedule ≡ whole_of past later = cc in ap (λ (w : Whole). w.stop) same
 
 -- nothing is left: each port has all of its transcript
-pub Progress-over : (schedule : Schedule) (now : Option Schedule) (sent sent_now : Outlet → Option (List ℕ)) (switch : Switch) (tally : Tally) (stop : Option Stop)
-    (so_far : Progress (Some schedule) now sent sent_now switch tally)
+pub Progress-over : (schedule : Schedule) (now : Option Schedule) (start desk : Told) (switch : Switch) (tally : Tally) (stop : Option Stop)
+    (so_far : Progress (Some schedule) now start desk switch tally)
     → IfSome now (λ left. left ≡ over stop)
     → (schedule.stop ≡ stop) × (onto schedule.events [] ≡ so_far.past)
-Progress-over schedule now sent sent_now switch tally stop so_far over_now = by_now now so_far.whole over_now where
+Progress-over schedule now start desk switch tally stop so_far over_now = by_now now so_far.whole over_now where
   by_now : (now : Option Schedule) → option_map (whole_of []) (Some schedule) ≡ option_map (whole_of so_far.past) now → IfSome now (λ left. left ≡ over stop)
       → (schedule.stop ≡ stop) × (onto schedule.events [] ≡ so_far.past)
   by_now None whole is = absurd (cc)
@@ -80,56 +80,56 @@ Progress-over schedule now sent sent_now switch tally stop so_far over_now = by_
   )
 
 -- what was written so far is a part of all that was to be written
-pub Progress-part : (schedule : Schedule) (now : Option Schedule) (sent sent_now : Outlet → Option (List ℕ)) (switch : Switch) (tally : Tally) (to : Outlet)
-    → Progress (Some schedule) now sent sent_now switch tally
-    → IsAppendedPart (sent to) (sent_now to) (text_of to schedule.events)
-Progress-part schedule now sent sent_now switch tally to so_far = by_now now so_far.whole where
+pub Progress-part : (schedule : Schedule) (now : Option Schedule) (start desk : Told) (switch : Switch) (tally : Tally) (to : Outlet)
+    → Progress (Some schedule) now start desk switch tally
+    → IsAppendedPart (start.sent to) (desk.sent to) (text_of to schedule.events)
+Progress-part schedule now start desk switch tally to so_far = by_now now so_far.whole where
   by_now : (now : Option Schedule) → option_map (whole_of []) (Some schedule) ≡ option_map (whole_of so_far.past) now
-      → IsAppendedPart (sent to) (sent_now to) (text_of to schedule.events)
+      → IsAppendedPart (start.sent to) (desk.sent to) (text_of to schedule.events)
   by_now None whole = absurd (cc)
   by_now (Some left) whole =
       let more = text_after-onto to left.events so_far.past in
       let all = ap (text_after to) (history_is schedule (Some left) so_far.past left whole refl) ∙ more.1 in
-      subst (λ (text : List ℕ). IsAppendedPart (sent to) (sent_now to) text) (sym all) (Grew-prefix _ _ _ more.0 (so_far.written to))
+      subst (λ (text : List ℕ). IsAppendedPart (start.sent to) (desk.sent to) text) (sym all) (Grew-prefix _ _ _ more.0 (so_far.written to))
 
 -- the same where what the next event gave was written in part
-pub Progress-broken : (schedule : Schedule) (now later : Option Schedule) (sent sent_now sent_later : Outlet → Option (List ℕ)) (switch : Switch) (tally : Tally) (event : Seen) (to : Outlet)
-    (so_far : Progress (Some schedule) now sent sent_now switch tally)
+pub Progress-broken : (schedule : Schedule) (now later : Option Schedule) (start desk desk_after : Told) (switch : Switch) (tally : Tally) (event : Seen) (to : Outlet)
+    (so_far : Progress (Some schedule) now start desk switch tally)
     → now ≡ option_map (in_front event) later
-    → IsAppendedPart (sent_now to) (sent_later to) (step_text to event so_far.past)
-    → IsAppendedPart (sent to) (sent_later to) (text_of to schedule.events)
-Progress-broken schedule now later sent sent_now sent_later switch tally event to so_far next part = by_later later (whole_of-step (Some schedule) now later so_far.past event next so_far.whole) where
+    → IsAppendedPart (desk.sent to) (desk_after.sent to) (step_text to event so_far.past)
+    → IsAppendedPart (start.sent to) (desk_after.sent to) (text_of to schedule.events)
+Progress-broken schedule now later start desk desk_after switch tally event to so_far next part = by_later later (whole_of-step (Some schedule) now later so_far.past event next so_far.whole) where
   by_later : (later : Option Schedule) → option_map (whole_of []) (Some schedule) ≡ option_map (whole_of (event ∷ so_far.past)) later
-      → IsAppendedPart (sent to) (sent_later to) (text_of to schedule.events)
+      → IsAppendedPart (start.sent to) (desk_after.sent to) (text_of to schedule.events)
   by_later None whole = absurd (cc)
   by_later (Some left) whole =
       let past = so_far.past in
       let more = text_after-onto to left.events (event ∷ past) in
       let all = ap (text_after to) (history_is schedule (Some left) (event ∷ past) left whole refl) ∙ (more.1 ∙ ap (λ (text : List ℕ). text ++ more.0) (text_after-step to event past)) in
-      subst (λ (text : List ℕ). IsAppendedPart (sent to) (sent_later to) text) (sym all)
+      subst (λ (text : List ℕ). IsAppendedPart (start.sent to) (desk_after.sent to) text) (sym all)
       (Grew-part _ _ _ (text_after to past) (step_text to event past) more.0 (so_far.written to) part)
 
 -- what an outlet got, where the reader stops
-pub WroteAtStop-advance : (stop : Stop) (reader : Reading) (schedule : Schedule) (now : Option Schedule) (sent sent_now sent_after : Outlet → Option (List ℕ)) (switch : Switch) (tally : Tally) (reads reads_after : Input → ℕ) (to : Outlet)
-    → Progress (Some schedule) now sent sent_now switch tally
-    → sent_after to ≡ sent_now to
-    → StopsBecause reader now reads reads_after stop
-    → WroteAtStop stop (text_of to schedule.events) (sent to) (sent_after to)
-WroteAtStop-advance stop reader schedule now sent sent_now sent_after switch tally reads reads_after to so_far same because = by_stop stop because where
-  all : (end : Option Stop) → IfSome now (λ left. left ≡ over end) → Grew (sent to) (sent_after to) (text_of to schedule.events)
+pub WroteAtStop-advance : (stop : Stop) (reader : Reading) (schedule : Schedule) (now : Option Schedule) (start desk desk_after : Told) (switch : Switch) (tally : Tally) (to : Outlet)
+    → Progress (Some schedule) now start desk switch tally
+    → desk_after.sent to ≡ desk.sent to
+    → StopsBecause reader now desk desk_after stop
+    → WroteAtStop stop (text_of to schedule.events) (start.sent to) (desk_after.sent to)
+WroteAtStop-advance stop reader schedule now start desk desk_after switch tally to so_far same because = by_stop stop because where
+  all : (end : Option Stop) → IfSome now (λ left. left ≡ over end) → Grew (start.sent to) (desk_after.sent to) (text_of to schedule.events)
   all end is =
-      let over_now = Progress-over schedule now sent sent_now switch tally end so_far is in
-      rw same (subst (λ (past : List Seen). Grew (sent to) (sent_now to) (text_after to past)) (sym over_now.1) (so_far.written to))
+      let over_now = Progress-over schedule now start desk switch tally end so_far is in
+      rw same (subst (λ (past : List Seen). Grew (start.sent to) (desk.sent to) (text_after to past)) (sym over_now.1) (so_far.written to))
 
-  part : IsAppendedPart (sent to) (sent_after to) (text_of to schedule.events)
-  part = rw same (Progress-part schedule now sent sent_now switch tally to so_far)
+  part : IsAppendedPart (start.sent to) (desk_after.sent to) (text_of to schedule.events)
+  part = rw same (Progress-part schedule now start desk switch tally to so_far)
 
-  by_input : (which : Input) → StopsBecause reader now reads reads_after (ReadFault which) → WroteAtStop (ReadFault which) (text_of to schedule.events) (sent to) (sent_after to)
+  by_input : (which : Input) → StopsBecause reader now desk desk_after (ReadFault which) → WroteAtStop (ReadFault which) (text_of to schedule.events) (start.sent to) (desk_after.sent to)
   by_input input.Capture is = part
   by_input input.Script is = part
   by_input input.Rules is = absurd is
 
-  by_stop : (stop : Stop) → StopsBecause reader now reads reads_after stop → WroteAtStop stop (text_of to schedule.events) (sent to) (sent_after to)
+  by_stop : (stop : Stop) → StopsBecause reader now desk desk_after stop → WroteAtStop stop (text_of to schedule.events) (start.sent to) (desk_after.sent to)
   by_stop (Capture offset why) is = all (Some (Capture offset why)) is.1
   by_stop (Script line why) is = all (Some (Script line why)) is.1
   by_stop TooLong is = all (Some TooLong) is.1
@@ -140,23 +140,23 @@ WroteAtStop-advance stop reader schedule now sent sent_now sent_after switch tal
   by_stop OutOfMemory is = absurd is
 
 -- why the reader stops is why serving stops
-pub ServingStops-advance : (stop : Stop) (reader : Reading) (coming now : Option Schedule) (sent sent_now : Outlet → Option (List ℕ)) (switch : Switch) (tally : Tally) (reads reads_after : Input → ℕ) (writes writes_after : Outlet → ℕ)
-    → Progress coming now sent sent_now switch tally
-    → StopsBecause reader now reads reads_after stop
-    → ServingStops stop coming reads reads_after writes writes_after
-ServingStops-advance stop reader coming now sent sent_now switch tally reads reads_after writes writes_after so_far because = by_stop stop because where
+pub ServingStops-advance : (stop : Stop) (reader : Reading) (coming now : Option Schedule) (start desk desk_after : Told) (switch : Switch) (tally : Tally)
+    → Progress coming now start desk switch tally
+    → StopsBecause reader now desk desk_after stop
+    → ServingStops stop coming desk desk_after
+ServingStops-advance stop reader coming now start desk desk_after switch tally so_far because = by_stop stop because where
   ends : (end : Option Stop) → IfSome now (λ left. left ≡ over end) → IfSome coming (λ schedule. schedule.stop ≡ end)
   ends end is = by_coming coming so_far where
-    by_coming : (coming : Option Schedule) → Progress coming now sent sent_now switch tally → IfSome coming (λ schedule. schedule.stop ≡ end)
+    by_coming : (coming : Option Schedule) → Progress coming now start desk switch tally → IfSome coming (λ schedule. schedule.stop ≡ end)
     by_coming None progress = tt
-    by_coming (Some schedule) progress = (Progress-over schedule now sent sent_now switch tally end progress is).0
+    by_coming (Some schedule) progress = (Progress-over schedule now start desk switch tally end progress is).0
 
-  by_input : (which : Input) → StopsBecause reader now reads reads_after (ReadFault which) → ServingStops (ReadFault which) coming reads reads_after writes writes_after
+  by_input : (which : Input) → StopsBecause reader now desk desk_after (ReadFault which) → ServingStops (ReadFault which) coming desk desk_after
   by_input input.Capture is = ((λ e. absurd (cc)), is.0)
   by_input input.Script is = ((λ e. absurd (cc)), is.0)
   by_input input.Rules is = absurd is
 
-  by_stop : (stop : Stop) → StopsBecause reader now reads reads_after stop → ServingStops stop coming reads reads_after writes writes_after
+  by_stop : (stop : Stop) → StopsBecause reader now desk desk_after stop → ServingStops stop coming desk desk_after
   by_stop (Capture offset why) is = ends (Some (Capture offset why)) is.1
   by_stop (Script line why) is = ends (Some (Script line why)) is.1
   by_stop TooLong is = ends (Some TooLong) is.1
@@ -166,77 +166,81 @@ ServingStops-advance stop reader coming now sent sent_now switch tally reads rea
   by_stop (WriteFault place) is = absurd is
   by_stop OutOfMemory is = absurd is
 
--- a count that rose later rose from the start
+-- a count that rose later, and earlier, rose in between too
+pub Rose-between : (first before after last : ℕ) → first ≤ before → after ≤ last → Rose before after → Rose first last
+Rose-between first before after last earlier later (inl rose) = inl (omega arith)
+Rose-between first before after last earlier later (inr most) = inr (omega arith)
+
 Rose-earlier : (first before after : ℕ) → first ≤ before → Rose before after → Rose first after
-Rose-earlier first before after earlier (inl rose) = inl (omega arith)
-Rose-earlier first before after earlier (inr last) = inr last
+Rose-earlier first before after earlier rose = Rose-between first before after after earlier (omega arith) rose
+
+-- no event writes nothing
+pub Grew-empty : (before after : Option (List ℕ)) (to : Outlet) → after ≡ before → Grew before after (text_after to [])
+Grew-empty before after (outlet.Port port) same = Grew-nothing before after same
+Grew-empty before after outlet.Log same = Grew-nothing before after same
+Grew-empty before after outlet.Report same = Grew-nothing before after same
+Grew-empty before after outlet.Faults same = Grew-nothing before after same
+Grew-empty before after outlet.Console same = Grew-nothing before after same
 
 -- why serving stops, told from an earlier moment
-pub ServingStops-earlier : (stop : Stop) (coming : Option Schedule) (first_reads reads reads_after : Input → ℕ) (first_writes writes writes_after : Outlet → ℕ)
-    → ((input : Input) → first_reads input ≤ reads input) → ((to : Outlet) → first_writes to ≤ writes to)
-    → ServingStops stop coming reads reads_after writes writes_after → ServingStops stop coming first_reads reads_after first_writes writes_after
-ServingStops-earlier (Capture offset why) coming first_reads reads reads_after first_writes writes writes_after reads_grow writes_grow is = is
-ServingStops-earlier TooLong coming first_reads reads reads_after first_writes writes writes_after reads_grow writes_grow is = is
-ServingStops-earlier (ReadFault which) coming first_reads reads reads_after first_writes writes writes_after reads_grow writes_grow is =
-    (is.0, Rose-earlier (first_reads which) (reads which) (reads_after which) (reads_grow which) is.1)
-ServingStops-earlier (WriteFault to) coming first_reads reads reads_after first_writes writes writes_after reads_grow writes_grow is =
-    (is.0, is.1, Rose-earlier (first_writes to) (writes to) (writes_after to) (writes_grow to) is.2)
-ServingStops-earlier (Script line why) coming first_reads reads reads_after first_writes writes writes_after reads_grow writes_grow is = is
-ServingStops-earlier Usage coming first_reads reads reads_after first_writes writes writes_after reads_grow writes_grow is = absurd is
-ServingStops-earlier (Rules why) coming first_reads reads reads_after first_writes writes writes_after reads_grow writes_grow is = absurd is
-ServingStops-earlier OutOfMemory coming first_reads reads reads_after first_writes writes writes_after reads_grow writes_grow is = absurd is
+pub ServingStops-earlier : (stop : Stop) (coming : Option Schedule) (first before after : Told)
+    → ((input : Input) → first.read_faults input ≤ before.read_faults input) → ((to : Outlet) → first.write_faults to ≤ before.write_faults to)
+    → ServingStops stop coming before after → ServingStops stop coming first after
+ServingStops-earlier (Capture offset why) coming first before after reads_grow writes_grow is = is
+ServingStops-earlier TooLong coming first before after reads_grow writes_grow is = is
+ServingStops-earlier (ReadFault which) coming first before after reads_grow writes_grow is =
+    (is.0, Rose-earlier (first.read_faults which) (before.read_faults which) (after.read_faults which) (reads_grow which) is.1)
+ServingStops-earlier (WriteFault to) coming first before after reads_grow writes_grow is =
+    (is.0, is.1, Rose-earlier (first.write_faults to) (before.write_faults to) (after.write_faults to) (writes_grow to) is.2)
+ServingStops-earlier (Script line why) coming first before after reads_grow writes_grow is = is
+ServingStops-earlier Usage coming first before after reads_grow writes_grow is = absurd is
+ServingStops-earlier (Rules why) coming first before after reads_grow writes_grow is = absurd is
+ServingStops-earlier OutOfMemory coming first before after reads_grow writes_grow is = absurd is
 
 length-onto : (events past : List Seen) → length (onto events past) ≡ length events + length past
 length-onto [] past = omega arith
 length-onto (event ∷ events) past = let later = length-onto events (event ∷ past) in omega (arith, later)
 
 -- a replay to the end of its schedule
-pub Finished-over : (schedule : Schedule) (now : Option Schedule) (sent sent_now sent_after : Outlet → Option (List ℕ)) (switch switch_after : Switch) (tally tally_after : Tally)
-    → Progress (Some schedule) now sent sent_now switch tally
+pub Finished-over : (schedule : Schedule) (now : Option Schedule) (start desk desk_after : Told) (switch switch_after : Switch) (tally tally_after : Tally)
+    → Progress (Some schedule) now start desk switch tally
     → IfSome now (λ left. left ≡ over None)
-    → ((to : Outlet) → sent_after to ≡ sent_now to) → switch_after ≡ switch → tally_after ≡ tally
-    → Finished schedule sent sent_after switch_after tally_after
-Finished-over schedule now sent sent_now sent_after switch switch_after tally tally_after so_far is same same_switch same_tally =
-    let end = Progress-over schedule now sent sent_now switch tally None so_far is in
+    → ((to : Outlet) → desk_after.sent to ≡ desk.sent to) → switch_after ≡ switch → tally_after ≡ tally
+    → Finished schedule start desk_after switch_after tally_after
+Finished-over schedule now start desk desk_after switch switch_after tally tally_after so_far is same same_switch same_tally =
+    let end = Progress-over schedule now start desk switch tally None so_far is in
     record {
       whole = end.0;
-      written = λ to. rw same (subst (λ (past : List Seen). Grew (sent to) (sent_now to) (text_after to past)) (sym end.1) (so_far.written to));
+      written = λ to. rw same (subst (λ (past : List Seen). Grew (start.sent to) (desk.sent to) (text_after to past)) (sym end.1) (so_far.written to));
       counted = subst (λ (past : List Seen). Counts tally_after past) (sym end.1) (subst (λ (t : Tally). Counts t so_far.past) (sym same_tally) so_far.counted);
       served = let nothing : length schedule.events ≡ length so_far.past = omega (arith, length-onto schedule.events [], ap length end.1) in
           rw same_switch (sym so_far.served ∙ sym nothing);
     }
 
 -- a replay that begins
-pub Progress-start : (coming now : Option Schedule) (sent sent_now : Outlet → Option (List ℕ)) (reader : Reading) (switch : Switch) (tally : Tally)
-    → IsFresh reader switch tally → now ≡ coming → ((to : Outlet) → sent_now to ≡ sent to)
-    → Progress coming now sent sent_now switch tally
-Progress-start coming now sent sent_now reader switch tally fresh same unsent = record {
+pub Progress-start : (coming now : Option Schedule) (start desk : Told) (reader : Reading) (switch : Switch) (tally : Tally)
+    → IsFresh reader switch tally → now ≡ coming → ((to : Outlet) → desk.sent to ≡ start.sent to)
+    → Progress coming now start desk switch tally
+Progress-start coming now start desk reader switch tally fresh same unsent = record {
   past = [];
   stands = fresh.stands;
   whole = ap (option_map (whole_of [])) (sym same);
-  written = λ to. Grew-empty to (Grew-nothing (sent to) (sent_now to) (unsent to));
+  written = λ to. Grew-empty (start.sent to) (desk.sent to) to (unsent to);
   counted = fresh.empty;
   served = sym fresh.unserved;
-} where
-  -- no event writes nothing
-  Grew-empty : (to : Outlet) → Grew (sent to) (sent_now to) [] → Grew (sent to) (sent_now to) (text_after to [])
-  Grew-empty (outlet.Port port) is = is
-  Grew-empty outlet.Log is = is
-  Grew-empty outlet.Report is = is
-  Grew-empty outlet.Faults is = is
-  Grew-empty outlet.Console is = is
+}
 
 -- why serving stops is why a run stops
-pub RunStops-serving : (stop : Stop) (refused : RulesFault → Type 0) (unread : Type 0) (coming : Option Schedule) (first_reads reads reads_after : Input → ℕ) (first_writes writes writes_after : Outlet → ℕ)
-    → ((input : Input) → first_reads input ≤ reads input) → ((to : Outlet) → first_writes to ≤ writes to)
-    → ServingStops stop coming reads reads_after writes writes_after → RunStops stop refused unread coming first_reads reads_after first_writes writes_after
-RunStops-serving stop refused unread coming first_reads reads reads_after first_writes writes writes_after reads_grow writes_grow is = by_stop stop is where
-  by_stop : (stop : Stop) → ServingStops stop coming reads reads_after writes writes_after → RunStops stop refused unread coming first_reads reads_after first_writes writes_after
+pub RunStops-serving : (stop : Stop) (refused : RulesFault → Type 0) (unread : Type 0) (coming : Option Schedule) (first before after : Told)
+    → ((input : Input) → first.read_faults input ≤ before.read_faults input) → ((to : Outlet) → first.write_faults to ≤ before.write_faults to)
+    → ServingStops stop coming before after → RunStops stop refused unread coming first after
+RunStops-serving stop refused unread coming first before after reads_grow writes_grow is = by_stop stop is where
+  by_stop : (stop : Stop) → ServingStops stop coming before after → RunStops stop refused unread coming first after
   by_stop (Capture offset why) is = is
   by_stop (Script line why) is = is
   by_stop TooLong is = is
-  by_stop (ReadFault which) is = Rose-earlier (first_reads which) (reads which) (reads_after which) (reads_grow which) is.1
-  by_stop (WriteFault to) is = (is.0, Rose-earlier (first_writes to) (writes to) (writes_after to) (writes_grow to) is.2)
+  by_stop (ReadFault which) is = Rose-earlier (first.read_faults which) (before.read_faults which) (after.read_faults which) (reads_grow which) is.1
+  by_stop (WriteFault to) is = (is.0, Rose-earlier (first.write_faults to) (before.write_faults to) (after.write_faults to) (writes_grow to) is.2)
   by_stop Usage is = absurd is
   by_stop (Rules why) is = absurd is
   by_stop OutOfMemory is = absurd is

@@ -3,6 +3,8 @@ use Rattle.std.proofs.Common.{◌≡◌, ℕ, ◌+◌, ◌≤◌, ◌<◌, Bool,
 use Rattle.std.proofs.lemmas.Bool.Decides.{nat_tests}
 use Rattle.std.proofs.lemmas.Option.{same_Some}
 use Rattle.std.proofs.lemmas.List.{length-take-le, take_all, take_at}
+use Rattle.psd_base.specs.Desk.{Told}
+use Rattle.psd_base.specs.declared.outlet.Input.TheVariants as input
 use Rattle.psd_base.specs.declared.stop.RulesFault.TheVariants.{TooBig}
 use Rattle.admin_rules.specs.declared.read.TheConstants.{RULES_FILE_SIZE}
 use Rattle.psd_base.specs.declared.stop.RulesFault.{RulesFault}
@@ -96,13 +98,13 @@ rules_told None items answer read is = tt
 rules_told (Some all) items answer read is = sym (rules_of-front all) ∙ (sym (ap rules_of read) ∙ is)
 
 -- why the bytes gave no rules is why there are none
-pub RulesStop-judged : (left : Option (List ℕ)) (items : List ℕ) (faults faults_after : ℕ) (stop : Stop) → IfSome left (λ all. items ≡ front_of all)
-    → JudgeStops (rules_of items) stop → RulesStop left faults faults_after stop
-RulesStop-judged left items faults faults_after (stops.Rules why) read judged = rules_told left items (Err why) read judged
-RulesStop-judged left items faults faults_after stops.OutOfMemory read judged = tt
-RulesStop-judged left items faults faults_after stops.Usage read judged = absurd judged
-RulesStop-judged left items faults faults_after (stops.Capture offset why) read judged = absurd judged
-RulesStop-judged left items faults faults_after (stops.Script line why) read judged = absurd judged
-RulesStop-judged left items faults faults_after stops.TooLong read judged = absurd judged
-RulesStop-judged left items faults faults_after (stops.ReadFault which) read judged = absurd judged
-RulesStop-judged left items faults faults_after (stops.WriteFault to) read judged = absurd judged
+pub RulesStop-judged : (before after : Told) (items : List ℕ) (stop : Stop) → IfSome (before.left input.Rules) (λ all. items ≡ front_of all)
+    → JudgeStops (rules_of items) stop → RulesStop before after stop
+RulesStop-judged before after items (stops.Rules why) read judged = rules_told (before.left input.Rules) items (Err why) read judged
+RulesStop-judged before after items stops.OutOfMemory read judged = tt
+RulesStop-judged before after items stops.Usage read judged = absurd judged
+RulesStop-judged before after items (stops.Capture offset why) read judged = absurd judged
+RulesStop-judged before after items (stops.Script line why) read judged = absurd judged
+RulesStop-judged before after items stops.TooLong read judged = absurd judged
+RulesStop-judged before after items (stops.ReadFault which) read judged = absurd judged
+RulesStop-judged before after items (stops.WriteFault to) read judged = absurd judged

@@ -1,18 +1,18 @@
 -- What a check of the rules answers and reports.
-use Rattle.std.specs.Prelude.{◌≡◌, ℕ, List, ◌++◌, codes, length, replicate, Option, Result, Ok, Err}
+use Rattle.std.specs.Prelude.{◌≡◌, ℕ, List, ◌++◌, codes, length, replicate, Option, IfErr, IsOk, Result, Ok, Err}
 use Rattle.std.specs.Fmt.{decimal}
-use Rattle.psd_base.specs.declared.outlet.Input.{Input}
 use Rattle.psd_base.specs.declared.outlet.Input.TheVariants as input
-use Rattle.psd_base.specs.declared.outlet.Outlet.{Outlet}
 use Rattle.psd_base.specs.declared.outlet.Outlet.TheVariants as outlet
 use Rattle.psd_base.specs.declared.port.TheConstants.{MAX_PORTS}
 use Rattle.psd_base.specs.declared.stop.RulesFault.{RulesFault}
 use Rattle.psd_base.specs.declared.stop.Stop.{Stop}
 use Rattle.psd_base.specs.declared.stop.Stop.TheVariants.{Rules, ReadFault, WriteFault, OutOfMemory}
 use Rattle.psd_base.specs.declared.summary.Summary.{Summary}
-use Rattle.psd_base.specs.Desk.{Rose, IsAppendedPart}
-use Rattle.admin_rules.specs.RuleFile.{Lists}
-use Rattle.kvm_program.specs.Outlets.{Grew}
+use Rattle.psd_base.specs.Desk.{IsAppendedPart, ReadFailed, Told, Touches, WriteFailed}
+use Rattle.admin_rules.specs.RuleFile.{Lists, rules_of}
+use Rattle.kvm_program.specs.Outlets.{AndFaults, Grew}
+use Rattle.kvm_program.specs.Replay.{EndsUnlessNoMemory, NothingFailed}
+use Rattle.kvm_program.specs.Rules.{RulesAreFaulty}
 
 -- the summary of a command that serves no event
 abbrev pub no_summary : Summary
@@ -34,9 +34,21 @@ CheckEnds (Err OutOfMemory) judged before after = after ≡ before
 CheckEnds (Err stop) judged before after = ⊥
 
 -- why a check stops
-abbrev pub CheckStops : (RulesFault → Type 0) → (Input → ℕ) → (Input → ℕ) → (Outlet → ℕ) → (Outlet → ℕ) → Stop → Type 0
-CheckStops refused reads reads_after writes writes_after (Rules why) = refused why
-CheckStops refused reads reads_after writes writes_after (ReadFault which) = (which ≡ input.Rules) × Rose (reads which) (reads_after which)
-CheckStops refused reads reads_after writes writes_after (WriteFault to) = (to ≡ outlet.Report) × Rose (writes to) (writes_after to)
-CheckStops refused reads reads_after writes writes_after OutOfMemory = Unit {0}
-CheckStops refused reads reads_after writes writes_after stop = ⊥
+abbrev pub CheckStops : Told → Told → Stop → Type 0
+CheckStops before after (Rules why) = RulesAreFaulty before why
+CheckStops before after (ReadFault which) = (which ≡ input.Rules) × ReadFailed input.Rules before after
+CheckStops before after (WriteFault to) = (to ≡ outlet.Report) × WriteFailed outlet.Report before after
+CheckStops before after OutOfMemory = Unit {0}
+CheckStops before after stop = ⊥
+
+-- it reads the rules alone, and writes to the report and, for a stop, to the faults
+abbrev pub OnlyChecks : Told → Told → Type 0
+OnlyChecks = Touches (λ which. which ≡ input.Rules) (AndFaults (λ to. to ≡ outlet.Report))
+
+-- what `check` promises
+pub record Checks (result : Result Summary Stop) (before after : Told) : Type 0 where
+  -- it tells how many entries the lists of the rules have, or why the rules are refused
+  pub ends : (bytes : List ℕ) → before.left input.Rules ≡ Some bytes → CheckEnds result (rules_of bytes) (before.sent outlet.Report) (after.sent outlet.Report)
+  pub stop : IfErr result (CheckStops before after)
+  pub complete : (bytes : List ℕ) → before.left input.Rules ≡ Some bytes → IsOk (rules_of bytes) → NothingFailed before after → EndsUnlessNoMemory result
+  pub only : OnlyChecks before after

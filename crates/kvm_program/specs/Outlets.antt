@@ -1,6 +1,6 @@
 -- What writing does to the outlets.
-use Rattle.std.specs.Prelude.{◌≡◌, ◌≢◌, ℕ, ◌≤◌, List, ◌++◌, Option, option_map, Result, Ok, Err}
-use Rattle.psd_base.specs.Desk.{Rose, IsAppendedPart}
+use Rattle.std.specs.Prelude.{◌≡◌, ◌≢◌, ◌⊎◌, ℕ, List, ◌++◌, Option, option_map, Result, Ok, Err}
+use Rattle.psd_base.specs.Desk.{IsAppendedPart, IsSource, NoInput, NoOutlet, Told, Touches, WriteFailed}
 use Rattle.psd_base.specs.declared.outlet.Input.{Input}
 use Rattle.psd_base.specs.declared.outlet.Outlet.{Outlet}
 use Rattle.psd_base.specs.declared.outlet.Outlet.TheVariants as outlet
@@ -16,24 +16,33 @@ abbrev pub Wrote : Result (Unit {0}) Stop → Option (List ℕ) → Option (List
 Wrote (Ok done) before after text = Grew before after text
 Wrote (Err why) before after text = IsAppendedPart before after text
 
--- nothing is written but to one outlet
-pub record OnlyWrites (to : Outlet) (left left_after : Input → Option (List ℕ)) (sent sent_after : Outlet → Option (List ℕ))
-    (read_faults read_faults_after : Input → ℕ) (write_faults write_faults_after : Outlet → ℕ) : Type 0 where
-  pub other_outlets : (other : Outlet) → other ≢ to → sent_after other ≡ sent other
-  pub inputs : (input : Input) → left_after input ≡ left input
-  pub read_counts : (input : Input) → read_faults input ≤ read_faults_after input
-  pub write_counts : (other : Outlet) → write_faults other ≤ write_faults_after other
+abbrev pub WroteTo : Outlet → Result (Unit {0}) Stop → Told → Told → List ℕ → Type 0
+WroteTo to result before after text = Wrote result (before.sent to) (after.sent to) text
 
--- nothing is written but to the ports and the log
-pub record OnlyWritesTexts (left left_after : Input → Option (List ℕ)) (sent sent_after : Outlet → Option (List ℕ))
-    (read_faults read_faults_after : Input → ℕ) (write_faults write_faults_after : Outlet → ℕ) : Type 0 where
-  pub report : sent_after outlet.Report ≡ sent outlet.Report
-  pub faults : sent_after outlet.Faults ≡ sent outlet.Faults
-  pub console : sent_after outlet.Console ≡ sent outlet.Console
-  pub inputs : (input : Input) → left_after input ≡ left input
-  pub read_counts : (input : Input) → read_faults input ≤ read_faults_after input
-  pub write_counts : (other : Outlet) → write_faults other ≤ write_faults_after other
+-- the outlets to which events write: the ports and the log
+abbrev pub IsText : Outlet → Type 0
+IsText (outlet.Port port) = Unit {0}
+IsText outlet.Log = Unit {0}
+IsText outlet.Console = ⊥
+IsText outlet.Report = ⊥
+IsText outlet.Faults = ⊥
+
+-- these outlets, and the faults, to which a stop writes its line
+abbrev pub AndFaults : (Outlet → Type 0) → Outlet → Type 0
+AndFaults writes to = writes to ⊎ (to ≡ outlet.Faults)
+
+-- nothing is read, and nothing grows
+abbrev pub Untouched : Told → Told → Type 0
+Untouched = Touches NoInput NoOutlet
+
+-- nothing is read, and the ports and the log alone are written
+abbrev pub OnlyWritesTexts : Told → Told → Type 0
+OnlyWritesTexts = Touches NoInput IsText
+
+-- serving reads the capture and the script, and writes to the ports and the log alone
+abbrev pub OnlyServes : Told → Told → Type 0
+OnlyServes = Touches IsSource IsText
 
 -- the stop is a write fault at the console, the log or a port, whose count rose
-abbrev pub IsTextFault : (Outlet → ℕ) → (Outlet → ℕ) → Stop → Type 0
-IsTextFault before after why = (to : Outlet) × (why ≡ stop.WriteFault to) × (to ≢ outlet.Faults) × (to ≢ outlet.Report) × Rose (before to) (after to)
+abbrev pub IsTextFault : Told → Told → Stop → Type 0
+IsTextFault before after why = (to : Outlet) × (why ≡ stop.WriteFault to) × (to ≢ outlet.Faults) × (to ≢ outlet.Report) × WriteFailed to before after

@@ -1,19 +1,25 @@
 -- What a replay promises.
-use Rattle.std.specs.Prelude.{◌≡◌, ◌≢◌, ◌⊎◌, ℕ, ◌≤◌, List, Option, Some, IfSome, IsOk, Result, Ok, Err}
-use Rattle.psd_base.specs.Desk.{Rose, IsAppendedPart}
+use Rattle.std.specs.Prelude.{◌≡◌, ◌≢◌, ◌⊎◌, ℕ, List, Option, Some, None, IfSome, IfOk, IfErr, IsOk, Result, Ok, Err}
+use Rattle.psd_base.specs.Desk.{IsAppendedPart, ReadFailed, Told, Touches, WriteFailed}
+use Rattle.psd_base.specs.declared.event.TheConstants.{EVENTS_MAX}
 use Rattle.psd_base.specs.declared.outlet.Input.{Input}
 use Rattle.psd_base.specs.declared.outlet.Input.TheVariants as input
 use Rattle.psd_base.specs.declared.outlet.Outlet.{Outlet}
 use Rattle.psd_base.specs.declared.outlet.Outlet.TheVariants as outlet
+use Rattle.psd_base.specs.declared.stop.RulesFault.{RulesFault}
 use Rattle.psd_base.specs.declared.stop.Stop.{Stop}
 use Rattle.psd_base.specs.declared.stop.Stop.TheVariants.{Usage, Rules, Capture, Script, TooLong, ReadFault, WriteFault, OutOfMemory}
 use Rattle.psd_base.specs.declared.summary.Summary.{Summary}
-use Rattle.psd_base.specs.declared.stop.RulesFault.{RulesFault}
 use Rattle.admin_rules.specs.RuleFile.{Lists, rules_of}
-use Rattle.capture_reader.specs.Schedule.{Schedule}
+use Rattle.capture_reader.specs.Schedule.{Schedule, schedule_told}
 use Rattle.port_transcript.specs.StopLine.{stop_text}
-use Rattle.kvm_program.specs.Outlets.{Grew}
+use Rattle.kvm_program.specs.Log.{log_of}
+use Rattle.kvm_program.specs.Outlets.{AndFaults, Grew}
 use Rattle.kvm_program.specs.Progress.{WroteAtStop}
+use Rattle.kvm_program.specs.Report.{report_text, summary_of}
+use Rattle.kvm_program.specs.Rules.{RulesAreFaulty}
+use Rattle.kvm_program.specs.Run.{Run, run_told}
+use Rattle.kvm_program.specs.Transcript.{transcript_of}
 
 -- A port, and the log, get all of their text, or a part of it, or nothing, by how the run ends.
 abbrev pub TextWritten : Result Summary Stop → List ℕ → Option (List ℕ) → Option (List ℕ) → Type 0
@@ -29,25 +35,31 @@ abbrev pub ReportWritten : Result Summary Stop → List ℕ → Option (List ℕ
 ReportWritten (Ok summary) text before after = Grew before after text
 ReportWritten (Err stop) text before after = ReportAtStop stop text before after
 
+-- What a run over these events writes and answers.
+pub record Serves (result : Result Summary Stop) (run : Run) (before after : Told) : Type 0 where
+  -- each port's transcript is that of a one-port switch over the port's own view, all of it or a part by how the run ends
+  pub ports : (port : ℕ) → TextWritten result (transcript_of port run.schedule.events) (before.sent (outlet.Port port)) (after.sent (outlet.Port port))
+  -- the log tells of the self-test and of the selection, all of it or a part in the same way
+  pub log : TextWritten result (log_of run.schedule.events) (before.sent outlet.Log) (after.sent outlet.Log)
+  -- the report tells of the whole run, and is written at its end alone
+  pub report : ReportWritten result (report_text (summary_of run.ports run.schedule.events)) (before.sent outlet.Report) (after.sent outlet.Report)
+  pub ok : IfOk result (λ summary. (run.schedule.stop ≡ None) × (summary ≡ summary_of run.ports run.schedule.events))
+
 -- Why a replay stops: its rules are refused, its schedule ends so, a read failed, a write failed that isn't that of a fault line, or there
 -- was no memory before anything but the rules was read.
-abbrev pub RunStops : Stop → (RulesFault → Type 0) → Type 0 → Option Schedule → (Input → ℕ) → (Input → ℕ) → (Outlet → ℕ) → (Outlet → ℕ) → Type 0
-RunStops (Rules why) refused unread coming reads reads_after writes writes_after = refused why
-RunStops (Capture offset why) refused unread coming reads reads_after writes writes_after = IfSome coming (λ schedule. schedule.stop ≡ Some (Capture offset why))
-RunStops (Script line why) refused unread coming reads reads_after writes writes_after = IfSome coming (λ schedule. schedule.stop ≡ Some (Script line why))
-RunStops TooLong refused unread coming reads reads_after writes writes_after = IfSome coming (λ schedule. schedule.stop ≡ Some TooLong)
-RunStops (ReadFault which) refused unread coming reads reads_after writes writes_after = Rose (reads which) (reads_after which)
-RunStops (WriteFault to) refused unread coming reads reads_after writes writes_after = (to ≢ outlet.Faults) × Rose (writes to) (writes_after to)
-RunStops OutOfMemory refused unread coming reads reads_after writes writes_after = unread
-RunStops Usage refused unread coming reads reads_after writes writes_after = ⊥
-
--- the rules have this fault, where the desk tells them
-abbrev pub RulesAreFaulty : Option (List ℕ) → RulesFault → Type 0
-RulesAreFaulty left why = IfSome left (λ bytes. rules_of bytes ≡ Err why)
+abbrev pub RunStops : Stop → (RulesFault → Type 0) → Type 0 → Option Schedule → Told → Told → Type 0
+RunStops (Rules why) refused unread coming before after = refused why
+RunStops (Capture offset why) refused unread coming before after = IfSome coming (λ schedule. schedule.stop ≡ Some (Capture offset why))
+RunStops (Script line why) refused unread coming before after = IfSome coming (λ schedule. schedule.stop ≡ Some (Script line why))
+RunStops TooLong refused unread coming before after = IfSome coming (λ schedule. schedule.stop ≡ Some TooLong)
+RunStops (ReadFault which) refused unread coming before after = ReadFailed which before after
+RunStops (WriteFault to) refused unread coming before after = (to ≢ outlet.Faults) × WriteFailed to before after
+RunStops OutOfMemory refused unread coming before after = unread
+RunStops Usage refused unread coming before after = ⊥
 
 -- Neither the capture nor the script was read.
-abbrev pub IsUnread : (Input → Option (List ℕ)) → (Input → Option (List ℕ)) → Type 0
-IsUnread left left_after = (left_after input.Capture ≡ left input.Capture) × (left_after input.Script ≡ left input.Script)
+abbrev pub IsUnread : Told → Told → Type 0
+IsUnread before after = (after.left input.Capture ≡ before.left input.Capture) × (after.left input.Script ≡ before.left input.Script)
 
 -- Rules that are refused stop a replay, and rules that aren't stop none.
 abbrev pub RulesJudged : Result Summary Stop → Result Lists RulesFault → Type 0
@@ -63,30 +75,47 @@ RulesJudged (Err (WriteFault to)) judged = IsOk judged
 RulesJudged (Err OutOfMemory) judged = Unit {0}
 RulesJudged (Err Usage) judged = ⊥
 
--- a command reads its inputs and writes to the ports, the log, the report and the faults, and nothing else
-pub record OnlyReplays (sent sent_after : Outlet → Option (List ℕ))
-    (read_faults read_faults_after : Input → ℕ) (write_faults write_faults_after : Outlet → ℕ) : Type 0 where
-  pub console : sent_after outlet.Console ≡ sent outlet.Console
-  pub read_counts : (input : Input) → read_faults input ≤ read_faults_after input
-  pub write_counts : (other : Outlet) → write_faults other ≤ write_faults_after other
+-- no read and no write failed
+pub record NothingFailed (before after : Told) : Type 0 where
+  pub reads : (input : Input) → ¬ ReadFailed input before after
+  pub writes : (to : Outlet) → ¬ WriteFailed to before after
 
--- nothing is read and nothing grows
-pub record Untouched (left left_after : Input → Option (List ℕ)) (sent sent_after : Outlet → Option (List ℕ))
-    (read_faults read_faults_after : Input → ℕ) (write_faults write_faults_after : Outlet → ℕ) : Type 0 where
-  pub outlets : (to : Outlet) → sent_after to ≡ sent to
-  pub inputs : (input : Input) → left_after input ≡ left input
-  pub read_counts : (input : Input) → read_faults input ≤ read_faults_after input
-  pub write_counts : (other : Outlet) → write_faults other ≤ write_faults_after other
+-- a command came to its end, or there was no memory
+abbrev pub EndsUnlessNoMemory : Result Summary Stop → Type 0
+EndsUnlessNoMemory result = IsOk result ⊎ (result ≡ Err OutOfMemory)
 
--- no failure was counted
-abbrev pub NoneRose : {Place : Type 0} → (Place → ℕ) → (Place → ℕ) → Type 0
-NoneRose {Place} before after = (place : Place) → ¬ Rose (before place) (after place)
+abbrev pub AnyInput : Input → Type 0
+AnyInput input = Unit {0}
+
+-- the outlets that a replay writes to: all but the console, and the faults for a stop
+abbrev pub IsReplayed : Outlet → Type 0
+IsReplayed (outlet.Port port) = Unit {0}
+IsReplayed outlet.Log = Unit {0}
+IsReplayed outlet.Report = Unit {0}
+IsReplayed outlet.Console = ⊥
+IsReplayed outlet.Faults = ⊥
+
+abbrev pub OnlyReplays : Told → Told → Type 0
+OnlyReplays = Touches AnyInput (AndFaults IsReplayed)
+
+-- what `replay` promises
+pub record Replays (result : Result Summary Stop) (before after : Told) : Type 0 where
+  pub serves : (run : Run) → run_told before ≡ Some run → Serves result run before after
+  -- rules that are refused stop it before anything else is read, with the first of their faults, and no others do
+  pub rules : (bytes : List ℕ) → before.left input.Rules ≡ Some bytes → RulesJudged result (rules_of bytes)
+  -- each stop has its cause, and without a cause it comes to its end
+  pub stop : IfErr result (λ stop. RunStops stop (RulesAreFaulty before) (IsUnread before after) (schedule_told EVENTS_MAX before) before after)
+  pub complete : (run : Run) (bytes : List ℕ) → run_told before ≡ Some run → run.schedule.stop ≡ None → before.left input.Rules ≡ Some bytes
+      → IsOk (rules_of bytes) → NothingFailed before after → EndsUnlessNoMemory result
+  pub only : OnlyReplays before after
 
 -- the line of a stop was written to the faults, or a part of it where that write failed and its count rose
-abbrev pub FaultWritten : Stop → Option (List ℕ) → Option (List ℕ) → ℕ → ℕ → Type 0
-FaultWritten stop before after faults faults_after = Grew before after (stop_text stop) ⊎ (IsAppendedPart before after (stop_text stop) × Rose faults faults_after)
+abbrev pub FaultWritten : Stop → Told → Told → Type 0
+FaultWritten stop before after =
+    Grew (before.sent outlet.Faults) (after.sent outlet.Faults) (stop_text stop)
+    ⊎ (IsAppendedPart (before.sent outlet.Faults) (after.sent outlet.Faults) (stop_text stop) × WriteFailed outlet.Faults before after)
 
 -- a stop alone writes to the faults
-abbrev pub FaultsWritten : Result Summary Stop → Option (List ℕ) → Option (List ℕ) → ℕ → ℕ → Type 0
-FaultsWritten (Ok summary) before after faults faults_after = after ≡ before
-FaultsWritten (Err stop) before after faults faults_after = FaultWritten stop before after faults faults_after
+abbrev pub FaultsWritten : Result Summary Stop → Told → Told → Type 0
+FaultsWritten (Ok summary) before after = after.sent outlet.Faults ≡ before.sent outlet.Faults
+FaultsWritten (Err stop) before after = FaultWritten stop before after

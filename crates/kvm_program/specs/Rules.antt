@@ -1,10 +1,10 @@
 -- What taking the rules answers.
-use Rattle.std.specs.Prelude.{◌≡◌, ℕ, List, Option, IfSome, Result, Err, take}
+use Rattle.std.specs.Prelude.{◌≡◌, ℕ, List, IfSome, Result, Err, take}
 use Rattle.psd_base.specs.declared.outlet.Input.TheVariants as input
 use Rattle.psd_base.specs.declared.stop.RulesFault.{RulesFault}
 use Rattle.psd_base.specs.declared.stop.Stop.{Stop}
 use Rattle.psd_base.specs.declared.stop.Stop.TheVariants.{Rules, ReadFault, OutOfMemory}
-use Rattle.psd_base.specs.Desk.{Rose}
+use Rattle.psd_base.specs.Desk.{ReadFailed, Told}
 use Rattle.kvm_program.specs.declared.rules.TheConstants.{RULES_READ}
 use Rattle.admin_rules.specs.RuleFile.{Lists, rules_of}
 
@@ -12,11 +12,15 @@ use Rattle.admin_rules.specs.RuleFile.{Lists, rules_of}
 unfoldable pub front_of : List ℕ → List ℕ
 front_of bytes = take RULES_READ bytes
 
+-- the rules have this fault, where the desk tells them
+abbrev pub RulesAreFaulty : Told → RulesFault → Type 0
+RulesAreFaulty told why = IfSome (told.left input.Rules) (λ bytes. rules_of bytes ≡ Err why)
+
 -- why the bytes of the rules weren't taken: a read failed and its count rose, or there was no memory
-abbrev pub FileStops : ℕ → ℕ → Stop → Type 0
-FileStops faults faults_after (ReadFault input.Rules) = Rose faults faults_after
-FileStops faults faults_after OutOfMemory = Unit {0}
-FileStops faults faults_after stop = ⊥
+abbrev pub FileStops : Told → Told → Stop → Type 0
+FileStops before after (ReadFault input.Rules) = ReadFailed input.Rules before after
+FileStops before after OutOfMemory = Unit {0}
+FileStops before after stop = ⊥
 
 -- why bytes gave no rules: they have this fault, or there was no memory
 abbrev pub JudgeStops : Result Lists RulesFault → Stop → Type 0
@@ -25,8 +29,8 @@ JudgeStops judged OutOfMemory = Unit {0}
 JudgeStops judged stop = ⊥
 
 -- why there are no rules: they have this fault, a read failed and its count rose, or there was no memory
-abbrev pub RulesStop : Option (List ℕ) → ℕ → ℕ → Stop → Type 0
-RulesStop left faults faults_after (Rules why) = IfSome left (λ bytes. rules_of bytes ≡ Err why)
-RulesStop left faults faults_after (ReadFault input.Rules) = Rose faults faults_after
-RulesStop left faults faults_after OutOfMemory = Unit {0}
-RulesStop left faults faults_after stop = ⊥
+abbrev pub RulesStop : Told → Told → Stop → Type 0
+RulesStop before after (Rules why) = RulesAreFaulty before why
+RulesStop before after (ReadFault input.Rules) = ReadFailed input.Rules before after
+RulesStop before after OutOfMemory = Unit {0}
+RulesStop before after stop = ⊥

@@ -1,9 +1,9 @@
 -- What a replay has to serve, by the bytes of its inputs.
 use Rattle.std.specs.Prelude.{ℕ, List, Option}
 use Rattle.psd_base.specs.declared.event.TheConstants.{EVENTS_MAX}
-use Rattle.psd_base.specs.declared.outlet.Input.{Input}
 use Rattle.psd_base.specs.declared.outlet.Input.TheVariants as input
-use Rattle.capture_reader.specs.Schedule.{Schedule, both, schedule, schedule_told, port_count}
+use Rattle.psd_base.specs.Desk.{Told}
+use Rattle.capture_reader.specs.Schedule.{Schedule, both, schedule, port_count}
 
 -- the number of ports, and the events with how they end
 pub record Run : Type 0 where
@@ -14,8 +14,5 @@ abbrev pub run_of : List ℕ → List ℕ → Run
 run_of capture script = record { ports = port_count capture; schedule = schedule EVENTS_MAX capture script }
 
 -- the run, where a desk tells what is left of its inputs
-abbrev pub run_told : (Input → Option (List ℕ)) → Option Run
-run_told left = both run_of (left input.Capture) (left input.Script)
-
-abbrev pub schedule_left : (Input → Option (List ℕ)) → Option Schedule
-schedule_left left = schedule_told EVENTS_MAX (left input.Capture) (left input.Script)
+abbrev pub run_told : Told → Option Run
+run_told told = both run_of (told.left input.Capture) (told.left input.Script)

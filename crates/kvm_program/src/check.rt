@@ -1,10 +1,9 @@
 //! The command `check`: the rule file alone.
-ghost use Rattle.std.specs.Prelude.{◌≡◌, ◌≢◌, ◌≤◌, Some, Ok, IfErr, IfOk, OnErr, List, ℕ};
-ghost use Rattle.psd_base.specs.Desk.{Rose};
-ghost use Rattle.admin_rules.specs.RuleFile.{lists_of, rules_of};
-ghost use Rattle.kvm_program.specs.Check.{CheckEnds, CheckStops, check_text, no_summary};
-ghost use Rattle.kvm_program.specs.Outlets.{OnlyWrites, Wrote};
-ghost use Rattle.kvm_program.specs.Replay.{RulesAreFaulty};
+ghost use Rattle.std.specs.Prelude.{◌≡◌, IfErr, OnErr};
+ghost use Rattle.psd_base.specs.Desk.{OnlyWrites, WriteFailed};
+ghost use Rattle.admin_rules.specs.RuleFile.{lists_of};
+ghost use Rattle.kvm_program.specs.Check.{Checks, check_text, no_summary};
+ghost use Rattle.kvm_program.specs.Outlets.{WroteTo};
 
 use crate::outlets::send;
 use crate::report::append_count;
@@ -20,14 +19,8 @@ use std::alloc::Global;
 
 /// Reads and judges the rule file, and reports how many entries each of its lists has.
 pub fn check<D: Desk>(alloc: Global, desk: &mut D) -> Result<Summary, Stop>
-    ensures ends { (bytes : List ℕ) → D.left desk.old Input.Rules ≡ Some bytes →
-        CheckEnds result (rules_of bytes) (D.sent desk.old Outlet.Report) (D.sent desk.new Outlet.Report) }
-    ensures stop { IfErr result (CheckStops (RulesAreFaulty (D.left desk.old Input.Rules))
-        (D.read_faults desk.old) (D.read_faults desk.new) (D.write_faults desk.old) (D.write_faults desk.new)) }
-    ensures other_inputs { (input : Input) → input ≢ Input.Rules → D.left desk.new input ≡ D.left desk.old input }
-    ensures other_outlets { (outlet : Outlet) → outlet ≢ Outlet.Report → D.sent desk.new outlet ≡ D.sent desk.old outlet }
-    ensures read_counts { (input : Input) → D.read_faults desk.old input ≤ D.read_faults desk.new input }
-    ensures write_counts { (outlet : Outlet) → D.write_faults desk.old outlet ≤ D.write_faults desk.new outlet }
+    ensures promise { Checks result (D.told desk.old) (D.told desk.new) }
+    ensures faults { (D.told desk.new).sent Outlet.Faults ≡ (D.told desk.old).sent Outlet.Faults }
 {
     let rules = take_rules(alloc, desk)?;
     report_lists(desk, &rules)?;
@@ -36,11 +29,10 @@ pub fn check<D: Desk>(alloc: Global, desk: &mut D) -> Result<Summary, Stop>
 
 /// Reports how many entries each list has.
 fn report_lists<D: Desk>(desk: &mut D, rules: &RuleSet) -> Result<(), Stop>
-    ensures wrote { Wrote result (D.sent desk.old Outlet.Report) (D.sent desk.new Outlet.Report) (check_text (lists_of rules.now)) }
+    ensures wrote { WroteTo Outlet.Report result (D.told desk.old) (D.told desk.new) (check_text (lists_of rules.now)) }
     ensures stop { IfErr result (λ stop. stop ≡ Stop.WriteFault Outlet.Report) }
-    ensures rose { OnErr result (Rose (D.write_faults desk.old Outlet.Report) (D.write_faults desk.new Outlet.Report)) }
-    ensures others { OnlyWrites Outlet.Report (D.left desk.old) (D.left desk.new) (D.sent desk.old) (D.sent desk.new)
-        (D.read_faults desk.old) (D.read_faults desk.new) (D.write_faults desk.old) (D.write_faults desk.new) }
+    ensures failed { OnErr result (WriteFailed Outlet.Report (D.told desk.old) (D.told desk.new)) }
+    ensures only { OnlyWrites Outlet.Report (D.told desk.old) (D.told desk.new) }
 {
     let text = list_lines(rules);
     send(desk, &Outlet::Report, text.as_slice())

@@ -1,10 +1,10 @@
 //! What is written where.
 ghost use Rattle.std.specs.Prelude.{◌≡◌, ◌≢◌, ℕ, ◌+◌, ◌^◌, ◌<◌, ◌≤◌, ◌==◌, if◌then◌else◌, [], length, IfErr, OnOk, OnErr};
 ghost use Rattle.psd_base.specs.Port.{IsPort};
-ghost use Rattle.psd_base.specs.Desk.{Rose};
+ghost use Rattle.psd_base.specs.Desk.{OnlyWrites, WriteFailed};
 ghost use Rattle.psd_base.specs.History.{number_of};
 ghost use Rattle.kvm_program.specs.Log.{is_leave, is_refusal, notes_text};
-ghost use Rattle.kvm_program.specs.Outlets.{OnlyWrites, OnlyWritesTexts, Wrote, IsTextFault};
+ghost use Rattle.kvm_program.specs.Outlets.{OnlyWritesTexts, WroteTo, IsTextFault};
 ghost use Rattle.kvm_program.specs.Tally.{bytes_at};
 ghost use Rattle.kvm_program.specs.Texts.{turn_text};
 ghost use Rattle.kvm_program.specs.Transcript.{text_at};
@@ -22,11 +22,10 @@ use switch_core::Turn;
 
 /// Writes to one outlet.
 pub fn send<D: Desk>(desk: &mut D, to: &Outlet, bytes: &[u8]) -> Result<(), Stop>
-    ensures wrote { Wrote result (D.sent desk.old to.now) (D.sent desk.new to.now) bytes.now }
+    ensures wrote { WroteTo to.now result (D.told desk.old) (D.told desk.new) bytes.now }
     ensures stop { IfErr result (λ stop. stop ≡ Stop.WriteFault to.now) }
-    ensures rose { OnErr result (Rose (D.write_faults desk.old to.now) (D.write_faults desk.new to.now)) }
-    ensures others { OnlyWrites to.now (D.left desk.old) (D.left desk.new) (D.sent desk.old) (D.sent desk.new)
-        (D.read_faults desk.old) (D.read_faults desk.new) (D.write_faults desk.old) (D.write_faults desk.new) }
+    ensures failed { OnErr result (WriteFailed to.now (D.told desk.old) (D.told desk.new)) }
+    ensures only { OnlyWrites to.now (D.told desk.old) (D.told desk.new) }
 {
     match desk.write(*to, bytes) {
         Ok(()) => Ok(()),
@@ -46,16 +45,15 @@ pub fn write_turn<D: Desk>(
     requires bytes { (port : ℕ) → IsPort port → bytes_at tally.old port + PORT_LINE_SIZE < 2 ^ 64 }
     requires left { tally.old.left + NOTES_MAX < 2 ^ 32 }
     requires refused { tally.old.refused + NOTES_MAX < 2 ^ 32 }
-    ensures wrote { (to : Outlet) → Wrote result (D.sent desk.old to) (D.sent desk.new to) (turn_text to turn.now.line tick turn.now.notes.items) }
+    ensures wrote { (to : Outlet) → WroteTo to result (D.told desk.old) (D.told desk.new) (turn_text to turn.now.line tick turn.now.notes.items) }
     ensures short { (port : ℕ) → length (text_at port turn.now.line) ≤ PORT_LINE_SIZE }
-    ensures stop { IfErr result (IsTextFault (D.write_faults desk.old) (D.write_faults desk.new)) }
+    ensures stop { IfErr result (IsTextFault (D.told desk.old) (D.told desk.new)) }
     ensures counted { OnOk result ((port : ℕ) → IsPort port → bytes_at tally.new port ≡ bytes_at tally.old port + length (text_at port turn.now.line)) }
     ensures left { OnOk result (tally.new.left ≡ tally.old.left + number_of is_leave turn.now.notes.items) }
     ensures refused { OnOk result (tally.new.refused ≡ tally.old.refused + number_of is_refusal turn.now.notes.items) }
     ensures few_left { OnOk result (tally.new.left ≤ tally.old.left + NOTES_MAX) }
     ensures few_refused { OnOk result (tally.new.refused ≤ tally.old.refused + NOTES_MAX) }
-    ensures others { OnlyWritesTexts (D.left desk.old) (D.left desk.new) (D.sent desk.old) (D.sent desk.new)
-        (D.read_faults desk.old) (D.read_faults desk.new) (D.write_faults desk.old) (D.write_faults desk.new) }
+    ensures only { OnlyWritesTexts (D.told desk.old) (D.told desk.new) }
 {
     write_line(desk, &turn.line, text, tally)?;
     write_notes(desk, tick, &turn.notes, text, tally)
@@ -69,15 +67,14 @@ fn write_line<D: Desk>(
     tally: &mut Tally,
 ) -> Result<(), Stop>
     requires { (port : ℕ) → IsPort port → bytes_at tally.old port + PORT_LINE_SIZE < 2 ^ 64 }
-    ensures wrote { (port : ℕ) → Wrote result (D.sent desk.old (Outlet.Port port)) (D.sent desk.new (Outlet.Port port)) (text_at port line.now) }
-    ensures log { D.sent desk.new Outlet.Log ≡ D.sent desk.old Outlet.Log }
+    ensures wrote { (port : ℕ) → WroteTo (Outlet.Port port) result (D.told desk.old) (D.told desk.new) (text_at port line.now) }
+    ensures log { (D.told desk.new).sent Outlet.Log ≡ (D.told desk.old).sent Outlet.Log }
     ensures short { (port : ℕ) → length (text_at port line.now) ≤ PORT_LINE_SIZE }
-    ensures stop { IfErr result (IsTextFault (D.write_faults desk.old) (D.write_faults desk.new)) }
+    ensures stop { IfErr result (IsTextFault (D.told desk.old) (D.told desk.new)) }
     ensures counted { OnOk result ((port : ℕ) → IsPort port → bytes_at tally.new port ≡ bytes_at tally.old port + length (text_at port line.now)) }
     ensures left { tally.new.left ≡ tally.old.left }
     ensures refused { tally.new.refused ≡ tally.old.refused }
-    ensures others { OnlyWritesTexts (D.left desk.old) (D.left desk.new) (D.sent desk.old) (D.sent desk.new)
-        (D.read_faults desk.old) (D.read_faults desk.new) (D.write_faults desk.old) (D.write_faults desk.new) }
+    ensures only { OnlyWritesTexts (D.told desk.old) (D.told desk.new) }
 {
     match line {
         None => Ok(()),
@@ -91,12 +88,11 @@ fn write_line<D: Desk>(
 
 /// Writes to one port's transcript.
 fn send_port<D: Desk>(desk: &mut D, port: PortId, bytes: &[u8]) -> Result<(), Stop>
-    ensures wrote { Wrote result (D.sent desk.old (Outlet.Port port)) (D.sent desk.new (Outlet.Port port)) bytes.now }
-    ensures apart { (other : ℕ) → other ≢ port → D.sent desk.new (Outlet.Port other) ≡ D.sent desk.old (Outlet.Port other) }
-    ensures log { D.sent desk.new Outlet.Log ≡ D.sent desk.old Outlet.Log }
-    ensures stop { IfErr result (IsTextFault (D.write_faults desk.old) (D.write_faults desk.new)) }
-    ensures others { OnlyWritesTexts (D.left desk.old) (D.left desk.new) (D.sent desk.old) (D.sent desk.new)
-        (D.read_faults desk.old) (D.read_faults desk.new) (D.write_faults desk.old) (D.write_faults desk.new) }
+    ensures wrote { WroteTo (Outlet.Port port) result (D.told desk.old) (D.told desk.new) bytes.now }
+    ensures apart { (other : ℕ) → other ≢ port → (D.told desk.new).sent (Outlet.Port other) ≡ (D.told desk.old).sent (Outlet.Port other) }
+    ensures log { (D.told desk.new).sent Outlet.Log ≡ (D.told desk.old).sent Outlet.Log }
+    ensures stop { IfErr result (IsTextFault (D.told desk.old) (D.told desk.new)) }
+    ensures only { OnlyWritesTexts (D.told desk.old) (D.told desk.new) }
 {
     send(desk, &Outlet::Port(port), bytes)
 }
@@ -109,14 +105,13 @@ fn write_text<D: Desk>(
     tally: &mut Tally,
 ) -> Result<(), Stop>
     requires { (port : ℕ) → IsPort port → bytes_at tally.old port + length text.now.items < 2 ^ 64 }
-    ensures wrote { (other : ℕ) → Wrote result (D.sent desk.old (Outlet.Port other)) (D.sent desk.new (Outlet.Port other)) (if port == other then text.now.items else []) }
-    ensures log { D.sent desk.new Outlet.Log ≡ D.sent desk.old Outlet.Log }
-    ensures stop { IfErr result (IsTextFault (D.write_faults desk.old) (D.write_faults desk.new)) }
+    ensures wrote { (other : ℕ) → WroteTo (Outlet.Port other) result (D.told desk.old) (D.told desk.new) (if port == other then text.now.items else []) }
+    ensures log { (D.told desk.new).sent Outlet.Log ≡ (D.told desk.old).sent Outlet.Log }
+    ensures stop { IfErr result (IsTextFault (D.told desk.old) (D.told desk.new)) }
     ensures counted { OnOk result ((other : ℕ) → IsPort other → bytes_at tally.new other ≡ bytes_at tally.old other + length (if port == other then text.now.items else [])) }
     ensures left { tally.new.left ≡ tally.old.left }
     ensures refused { tally.new.refused ≡ tally.old.refused }
-    ensures others { OnlyWritesTexts (D.left desk.old) (D.left desk.new) (D.sent desk.old) (D.sent desk.new)
-        (D.read_faults desk.old) (D.read_faults desk.new) (D.write_faults desk.old) (D.write_faults desk.new) }
+    ensures only { OnlyWritesTexts (D.told desk.old) (D.told desk.new) }
 {
     send_port(desk, port, text.as_slice())?;
     tally.add(port, text.len());
@@ -133,16 +128,15 @@ fn write_notes<D: Desk>(
 ) -> Result<(), Stop>
     requires left { tally.old.left + NOTES_MAX < 2 ^ 32 }
     requires refused { tally.old.refused + NOTES_MAX < 2 ^ 32 }
-    ensures wrote { Wrote result (D.sent desk.old Outlet.Log) (D.sent desk.new Outlet.Log) (notes_text tick notes.now.items) }
-    ensures ports { (port : ℕ) → D.sent desk.new (Outlet.Port port) ≡ D.sent desk.old (Outlet.Port port) }
-    ensures stop { IfErr result (IsTextFault (D.write_faults desk.old) (D.write_faults desk.new)) }
+    ensures wrote { WroteTo Outlet.Log result (D.told desk.old) (D.told desk.new) (notes_text tick notes.now.items) }
+    ensures ports { (port : ℕ) → (D.told desk.new).sent (Outlet.Port port) ≡ (D.told desk.old).sent (Outlet.Port port) }
+    ensures stop { IfErr result (IsTextFault (D.told desk.old) (D.told desk.new)) }
     ensures counted { (port : ℕ) → bytes_at tally.new port ≡ bytes_at tally.old port }
     ensures left { OnOk result (tally.new.left ≡ tally.old.left + number_of is_leave notes.now.items) }
     ensures refused { OnOk result (tally.new.refused ≡ tally.old.refused + number_of is_refusal notes.now.items) }
     ensures few_left { OnOk result (tally.new.left ≤ tally.old.left + NOTES_MAX) }
     ensures few_refused { OnOk result (tally.new.refused ≤ tally.old.refused + NOTES_MAX) }
-    ensures others { OnlyWritesTexts (D.left desk.old) (D.left desk.new) (D.sent desk.old) (D.sent desk.new)
-        (D.read_faults desk.old) (D.read_faults desk.new) (D.write_faults desk.old) (D.write_faults desk.new) }
+    ensures only { OnlyWritesTexts (D.told desk.old) (D.told desk.new) }
 {
     if notes.is_empty() {
         return Ok(());

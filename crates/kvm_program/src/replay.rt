@@ -1,12 +1,13 @@
 //! The replay: every event of the capture and the script is served, and what it gives is written.
 ghost use Rattle.std.specs.Prelude.{◌≡◌, ◌≢◌, ℕ, ◌+◌, ◌*◌, ◌^◌, ◌<◌, ◌≤◌, List, [], ◌∷◌, length, Option, option_map, IfSome, IfOk, IfErr, OnOk, OnErr};
 ghost use Rattle.psd_base.specs.Port.{IsPort};
-ghost use Rattle.capture_reader.specs.Reader.{rest};
+ghost use Rattle.psd_base.specs.Desk.{Told};
+ghost use Rattle.capture_reader.specs.Reader.{rest_told};
 ghost use Rattle.switch_core.specs.StandsFor.{StandsFor, port_total, line_at};
 ghost use Rattle.switch_core.specs.Notes.{notes_at};
 ghost use Rattle.psd_base.specs.History.{number_of, onto};
 ghost use Rattle.kvm_program.specs.Log.{is_leave, is_refusal};
-ghost use Rattle.kvm_program.specs.Outlets.{OnlyWritesTexts, Wrote, IsTextFault};
+ghost use Rattle.kvm_program.specs.Outlets.{OnlyServes, OnlyWritesTexts, WroteTo, IsTextFault};
 ghost use Rattle.kvm_program.specs.Tally.{bytes_at};
 ghost use Rattle.kvm_program.specs.Texts.{step_text, text_of};
 ghost use Rattle.kvm_program.specs.Transcript.{text_at};
@@ -35,7 +36,7 @@ impl Server {
     ghost use Rattle.psd_base.specs.Event.{Seen, seen, happening_of, HappensWithin};
     ghost use Rattle.std.specs.Prelude.{Some, None, Ok, true, false};
     ghost use Rattle.capture_reader.specs.Schedule.{Schedule, over};
-    ghost use Rattle.kvm_program.specs.Progress.{Counts, Progress, Finished, HasRoom, IsReady, WroteAtStop, ServingStops, OnlyServes};
+    ghost use Rattle.kvm_program.specs.Progress.{Counts, ProgressOf, Finished, HasRoom, IsReady, WroteAtStop, ServingStops};
     ghost use Rattle.kvm_program.specs.Report.{summary_of};
 
     /// What serves with this switch, before any event.
@@ -73,15 +74,14 @@ impl Server {
         requires room { HasRoom self.old.tally self.old.switch.served }
         ensures stands { (past : List Seen) → StandsFor self.old.switch past → StandsFor self.new.switch (seen event.now ∷ past) }
         ensures wrote { (past : List Seen) → StandsFor self.old.switch past → (to : Outlet) →
-            Wrote result (D.sent desk.old to) (D.sent desk.new to) (step_text to (seen event.now) past) }
+            WroteTo to result (D.told desk.old) (D.told desk.new) (step_text to (seen event.now) past) }
         ensures counted { (past : List Seen) → StandsFor self.old.switch past → Counts self.old.tally past
             → OnOk result (Counts self.new.tally (seen event.now ∷ past)) }
         ensures room { OnOk result (HasRoom self.new.tally self.new.switch.served) }
         ensures served { self.new.switch.served ≡ self.old.switch.served + 1 }
         ensures ports { port_total self.new.switch ≡ port_total self.old.switch }
-        ensures stop { IfErr result (IsTextFault (D.write_faults desk.old) (D.write_faults desk.new)) }
-        ensures others { OnlyWritesTexts (D.left desk.old) (D.left desk.new) (D.sent desk.old) (D.sent desk.new)
-            (D.read_faults desk.old) (D.read_faults desk.new) (D.write_faults desk.old) (D.write_faults desk.new) }
+        ensures stop { IfErr result (IsTextFault (D.told desk.old) (D.told desk.new)) }
+        ensures only { OnlyWritesTexts (D.told desk.old) (D.told desk.new) }
     {
         self.switch.step(event, &mut self.turn);
         write_turn(
@@ -99,20 +99,19 @@ impl Server {
         ensures ready { result ≡ Ok true → IsReady reader.new self.new.switch self.new.tally }
         ensures counted { result ≡ Ok true → (reader.new.served ≡ reader.old.served + 1) × (reader.new.served ≤ reader.old.limit) }
         ensures same { OnOk result ((reader.new.limit ≡ reader.old.limit) × (reader.new.ports ≡ reader.old.ports)) }
-        ensures going { result ≡ Ok true → (coming : Option Schedule) (sent : Outlet → Option (List ℕ)) →
-            Progress coming (rest reader.old (D.left desk.old Input.Capture) (D.left desk.old Input.Script)) sent (D.sent desk.old) self.old.switch self.old.tally →
-            Progress coming (rest reader.new (D.left desk.new Input.Capture) (D.left desk.new Input.Script)) sent (D.sent desk.new) self.new.switch self.new.tally }
-        ensures ended { result ≡ Ok false → IfSome (rest reader.old (D.left desk.old Input.Capture) (D.left desk.old Input.Script)) (λ left. left ≡ over None) }
-        ensures idle { result ≡ Ok false → ((outlet : Outlet) → D.sent desk.new outlet ≡ D.sent desk.old outlet)
+        ensures going { result ≡ Ok true → (coming : Option Schedule) (start : Told) →
+            ProgressOf coming start reader.old (D.told desk.old) self.old.switch self.old.tally →
+            ProgressOf coming start reader.new (D.told desk.new) self.new.switch self.new.tally }
+        ensures ended { result ≡ Ok false → IfSome (rest_told reader.old (D.told desk.old)) (λ left. left ≡ over None) }
+        ensures idle { result ≡ Ok false → ((outlet : Outlet) → (D.told desk.new).sent outlet ≡ (D.told desk.old).sent outlet)
             × (self.new.switch ≡ self.old.switch) × (self.new.tally ≡ self.old.tally) }
-        ensures written { IfErr result (λ stop. (schedule : Schedule) (sent : Outlet → Option (List ℕ)) (to : Outlet) →
-            Progress (Some schedule) (rest reader.old (D.left desk.old Input.Capture) (D.left desk.old Input.Script)) sent (D.sent desk.old) self.old.switch self.old.tally →
-            WroteAtStop stop (text_of to schedule.events) (sent to) (D.sent desk.new to)) }
-        ensures stop { IfErr result (λ stop. (coming : Option Schedule) (sent : Outlet → Option (List ℕ)) →
-            Progress coming (rest reader.old (D.left desk.old Input.Capture) (D.left desk.old Input.Script)) sent (D.sent desk.old) self.old.switch self.old.tally →
-            ServingStops stop coming (D.read_faults desk.old) (D.read_faults desk.new) (D.write_faults desk.old) (D.write_faults desk.new)) }
-        ensures others { OnlyServes (D.left desk.old) (D.left desk.new) (D.sent desk.old) (D.sent desk.new)
-            (D.read_faults desk.old) (D.read_faults desk.new) (D.write_faults desk.old) (D.write_faults desk.new) }
+        ensures written { IfErr result (λ stop. (schedule : Schedule) (start : Told) (to : Outlet) →
+            ProgressOf (Some schedule) start reader.old (D.told desk.old) self.old.switch self.old.tally →
+            WroteAtStop stop (text_of to schedule.events) (start.sent to) ((D.told desk.new).sent to)) }
+        ensures stop { IfErr result (λ stop. (coming : Option Schedule) (start : Told) →
+            ProgressOf coming start reader.old (D.told desk.old) self.old.switch self.old.tally →
+            ServingStops stop coming (D.told desk.old) (D.told desk.new)) }
+        ensures only { OnlyServes (D.told desk.old) (D.told desk.new) }
     {
         if !reader.advance(desk)? {
             return Ok(false);
@@ -125,17 +124,16 @@ impl Server {
     /// Serves every event of the reader.
     pub fn serve_all<D: Desk>(&mut self, reader: &mut Reader, desk: &mut D) -> Result<(), Stop>
         requires { IsReady reader.old self.old.switch self.old.tally }
-        ensures finished { OnOk result ((schedule : Schedule) (sent : Outlet → Option (List ℕ)) →
-            Progress (Some schedule) (rest reader.old (D.left desk.old Input.Capture) (D.left desk.old Input.Script)) sent (D.sent desk.old) self.old.switch self.old.tally →
-            Finished schedule sent (D.sent desk.new) self.new.switch self.new.tally) }
-        ensures written { IfErr result (λ stop. (schedule : Schedule) (sent : Outlet → Option (List ℕ)) (to : Outlet) →
-            Progress (Some schedule) (rest reader.old (D.left desk.old Input.Capture) (D.left desk.old Input.Script)) sent (D.sent desk.old) self.old.switch self.old.tally →
-            WroteAtStop stop (text_of to schedule.events) (sent to) (D.sent desk.new to)) }
-        ensures stop { IfErr result (λ stop. (coming : Option Schedule) (sent : Outlet → Option (List ℕ)) →
-            Progress coming (rest reader.old (D.left desk.old Input.Capture) (D.left desk.old Input.Script)) sent (D.sent desk.old) self.old.switch self.old.tally →
-            ServingStops stop coming (D.read_faults desk.old) (D.read_faults desk.new) (D.write_faults desk.old) (D.write_faults desk.new)) }
-        ensures others { OnlyServes (D.left desk.old) (D.left desk.new) (D.sent desk.old) (D.sent desk.new)
-            (D.read_faults desk.old) (D.read_faults desk.new) (D.write_faults desk.old) (D.write_faults desk.new) }
+        ensures finished { OnOk result ((schedule : Schedule) (start : Told) →
+            ProgressOf (Some schedule) start reader.old (D.told desk.old) self.old.switch self.old.tally →
+            Finished schedule start (D.told desk.new) self.new.switch self.new.tally) }
+        ensures written { IfErr result (λ stop. (schedule : Schedule) (start : Told) (to : Outlet) →
+            ProgressOf (Some schedule) start reader.old (D.told desk.old) self.old.switch self.old.tally →
+            WroteAtStop stop (text_of to schedule.events) (start.sent to) ((D.told desk.new).sent to)) }
+        ensures stop { IfErr result (λ stop. (coming : Option Schedule) (start : Told) →
+            ProgressOf coming start reader.old (D.told desk.old) self.old.switch self.old.tally →
+            ServingStops stop coming (D.told desk.old) (D.told desk.new)) }
+        ensures only { OnlyServes (D.told desk.old) (D.told desk.new) }
     {
         'events: while self.serve_next(reader, desk)? {}
         Ok(())

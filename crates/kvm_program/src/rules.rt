@@ -1,8 +1,7 @@
 //! Takes the administrator's rules from the desk.
 ghost use Rattle.std.specs.Prelude.{◌≡◌, ◌≢◌, ℕ, ◌+◌, ◌<◌, ◌≤◌, ◌++◌, List, [], length, take, option_map, Ok, Err, IfOk, IfErr, IfSome, OnErr, OnOk};
-ghost use Rattle.psd_base.specs.Desk.{Rose};
+ghost use Rattle.psd_base.specs.Desk.{OnlyReads};
 ghost use Rattle.admin_rules.specs.RuleFile.{lists_of, rules_of};
-ghost use Rattle.capture_reader.specs.Window.{OnlyReads};
 ghost use Rattle.kvm_program.specs.Rules.{FileStops, JudgeStops, RulesStop, front_of};
 
 use admin_rules::{RULES_FILE_SIZE, read_rules};
@@ -18,10 +17,9 @@ pub const RULES_READ: usize = RULES_FILE_SIZE + 1;
 
 /// Reads the rules and judges them. Memory for them is taken before they are read.
 pub fn take_rules<D: Desk>(alloc: Global, desk: &mut D) -> Result<RuleSet, Stop>
-    ensures rules { IfOk result (λ rules. IfSome (D.left desk.old Input.Rules) (λ bytes. rules_of bytes ≡ Ok (lists_of rules))) }
-    ensures stop { IfErr result (RulesStop (D.left desk.old Input.Rules) (D.read_faults desk.old Input.Rules) (D.read_faults desk.new Input.Rules)) }
-    ensures only { OnlyReads Input.Rules (D.left desk.old) (D.left desk.new) (D.sent desk.old) (D.sent desk.new)
-        (D.read_faults desk.old) (D.read_faults desk.new) (D.write_faults desk.old) (D.write_faults desk.new) }
+    ensures rules { IfOk result (λ rules. IfSome ((D.told desk.old).left Input.Rules) (λ bytes. rules_of bytes ≡ Ok (lists_of rules))) }
+    ensures stop { IfErr result (RulesStop (D.told desk.old) (D.told desk.new)) }
+    ensures only { OnlyReads Input.Rules (D.told desk.old) (D.told desk.new) }
 {
     let bytes = read_rule_file(alloc, desk)?;
     judge(alloc, bytes.as_slice())
@@ -41,10 +39,9 @@ fn judge(alloc: Global, bytes: &[u8]) -> Result<RuleSet, Stop>
 
 /// Reads the rules up to their end, or up to `RULES_READ` bytes.
 fn read_rule_file<D: Desk>(alloc: Global, desk: &mut D) -> Result<Vec<u8>, Stop>
-    ensures bytes { IfOk result (λ bytes. IfSome (D.left desk.old Input.Rules) (λ all. bytes.items ≡ front_of all)) }
-    ensures stop { IfErr result (FileStops (D.read_faults desk.old Input.Rules) (D.read_faults desk.new Input.Rules)) }
-    ensures only { OnlyReads Input.Rules (D.left desk.old) (D.left desk.new) (D.sent desk.old) (D.sent desk.new)
-        (D.read_faults desk.old) (D.read_faults desk.new) (D.write_faults desk.old) (D.write_faults desk.new) }
+    ensures bytes { IfOk result (λ bytes. IfSome ((D.told desk.old).left Input.Rules) (λ all. bytes.items ≡ front_of all)) }
+    ensures stop { IfErr result (FileStops (D.told desk.old) (D.told desk.new)) }
+    ensures only { OnlyReads Input.Rules (D.told desk.old) (D.told desk.new) }
 {
     match room_for_rules(alloc) {
         Ok(bytes) => read_into(desk, bytes),
@@ -61,10 +58,9 @@ fn room_for_rules(alloc: Global) -> Result<Vec<u8>, AllocError>
 
 /// Reads the rules into this room, and gives the bytes that there are.
 fn read_into<D: Desk>(desk: &mut D, room: Vec<u8>) -> Result<Vec<u8>, Stop>
-    ensures bytes { IfOk result (λ bytes. IfSome (D.left desk.old Input.Rules) (λ all. bytes.items ≡ take (length room.items) all)) }
-    ensures stop { IfErr result (FileStops (D.read_faults desk.old Input.Rules) (D.read_faults desk.new Input.Rules)) }
-    ensures only { OnlyReads Input.Rules (D.left desk.old) (D.left desk.new) (D.sent desk.old) (D.sent desk.new)
-        (D.read_faults desk.old) (D.read_faults desk.new) (D.write_faults desk.old) (D.write_faults desk.new) }
+    ensures bytes { IfOk result (λ bytes. IfSome ((D.told desk.old).left Input.Rules) (λ all. bytes.items ≡ take (length room.items) all)) }
+    ensures stop { IfErr result (FileStops (D.told desk.old) (D.told desk.new)) }
+    ensures only { OnlyReads Input.Rules (D.told desk.old) (D.told desk.new) }
 {
     let mut bytes = room;
     let count = fill(desk, bytes.as_mut_slice())?;
@@ -75,10 +71,9 @@ fn read_into<D: Desk>(desk: &mut D, room: Vec<u8>) -> Result<Vec<u8>, Stop>
 /// Reads the rules to the front of `into`, up to their end or until it is full, and answers how many bytes there are.
 fn fill<D: Desk>(desk: &mut D, into: &mut [u8]) -> Result<usize, Stop>
     ensures within { IfOk result (λ count. count ≤ length into.old) }
-    ensures bytes { IfOk result (λ count. IfSome (D.left desk.old Input.Rules) (λ all. take count into.new ≡ take (length into.old) all)) }
-    ensures stop { IfErr result (FileStops (D.read_faults desk.old Input.Rules) (D.read_faults desk.new Input.Rules)) }
-    ensures only { OnlyReads Input.Rules (D.left desk.old) (D.left desk.new) (D.sent desk.old) (D.sent desk.new)
-        (D.read_faults desk.old) (D.read_faults desk.new) (D.write_faults desk.old) (D.write_faults desk.new) }
+    ensures bytes { IfOk result (λ count. IfSome ((D.told desk.old).left Input.Rules) (λ all. take count into.new ≡ take (length into.old) all)) }
+    ensures stop { IfErr result (FileStops (D.told desk.old) (D.told desk.new)) }
+    ensures only { OnlyReads Input.Rules (D.told desk.old) (D.told desk.new) }
 {
     let mut count = 0;
     let mut going = true;

@@ -1,10 +1,11 @@
 -- What a desk in memory holds, and what its calls do to it.
-use Rattle.std.specs.Prelude.{ℕ, ◌-◌, ◌^◌, ◌<◌, ◌⊎◌, min, List, [], ◌∷◌, length, drop, replicate, slice_index_or, slice_set, unwrap_or, IsSome}
+use Rattle.std.specs.Prelude.{ℕ, ◌-◌, ◌^◌, ◌<◌, ◌⊎◌, min, List, [], ◌∷◌, length, drop, replicate, slice_index_or, slice_set, unwrap_or, Some, IsSome}
 use Rattle.psd_base.specs.declared.outlet.Input.{Input}
 use Rattle.psd_base.specs.declared.outlet.Outlet.{Outlet}
 use Rattle.psd_base.specs.declared.places.TheConstants.{OUTLETS}
 use Rattle.psd_base.specs.Places.{place_of_input, place_of_outlet}
-use Rattle.psd_base.specs.FaultCounts.{Faults, no_faults, with_failed_read, with_failed_write}
+use Rattle.psd_base.specs.Desk.{Told}
+use Rattle.psd_base.specs.FaultCounts.{Faults, no_faults, reads_failed, writes_failed, with_failed_read, with_failed_write}
 use Rattle.psd_base.specs.Store.{Stored, room_left, append_to}
 use Rattle.psd_base.specs.Calls.{Counted, no_calls, next_failure, with_next_call}
 
@@ -40,6 +41,15 @@ store_of desk outlet = slice_index_or desk.outlets (place_of_outlet outlet) (emp
 
 abbrev pub bytes_sent : Held → Outlet → List ℕ
 bytes_sent desk outlet = (store_of desk outlet).bytes
+
+-- it tells everything
+abbrev pub told_by : Held → Told
+told_by desk = record {
+  left = λ input. Some (left_of desk input);
+  sent = λ outlet. Some (bytes_sent desk outlet);
+  read_faults = reads_failed desk.faults;
+  write_faults = writes_failed desk.faults;
+}
 
 -- how many bytes a read gives that doesn't fail
 abbrev pub bytes_given : Held → Input → ℕ → ℕ

@@ -1,20 +1,32 @@
 -- Where the bytes of an outlet go in the current folder.
-use Rattle.std.specs.Prelude.{ℕ, ◌≡◌, ◌<◌, ◌⊎◌, List, [], ◌++◌, length}
-use Rattle.psd_base.specs.declared.sink.TheConstants.{BUFFER_SIZE}
+use Rattle.std.specs.Prelude.{ℕ, ◌≡◌, ◌<◌, ◌⊎◌, List, [], ◌++◌, length, vec_capacity}
 use Rattle.psd_base.specs.declared.sink.Sink.{Sink}
 use Rattle.psd_base.specs.declared.sink.Sink.TheVariants.{Unused, Open, Failed}
 
 -- the bytes that wait to be written out
 abbrev pub waiting_in : {F : Type 0} → Sink F → List ℕ
-waiting_in Unused = []
+waiting_in (Unused waiting) = []
 waiting_in (Open buffered) = buffered.waiting.items
 waiting_in Failed = []
 
+-- how many bytes can wait
+abbrev pub room_in : {F : Type 0} → Sink F → ℕ
+room_in (Unused waiting) = vec_capacity waiting
+room_in (Open buffered) = vec_capacity buffered.waiting
+room_in Failed = 0
+
 abbrev pub IsOpen : {F : Type 0} → Sink F → Type 0
-IsOpen Unused = ⊥
+IsOpen (Unused waiting) = ⊥
 IsOpen (Open buffered) = Unit {0}
 IsOpen Failed = ⊥
 
--- further bytes wait behind those before them, or in their place when those were written out; only too many don't wait
-abbrev pub Takes : List ℕ → List ℕ → List ℕ → Type 0
-Takes before after bytes = (after ≡ before ++ bytes) ⊎ ((after ≡ bytes) ⊎ ((BUFFER_SIZE < length bytes) × (after ≡ [])))
+-- nothing was written, and nothing waits
+abbrev pub IsFresh : {F : Type 0} → Sink F → Type 0
+IsFresh (Unused waiting) = waiting.items ≡ []
+IsFresh (Open buffered) = ⊥
+IsFresh Failed = ⊥
+
+-- Further bytes wait behind those before them, or in their place when those were written out; only more bytes than there is room
+-- for don't wait.
+abbrev pub Takes : ℕ → List ℕ → List ℕ → List ℕ → Type 0
+Takes room before after bytes = (after ≡ before ++ bytes) ⊎ ((after ≡ bytes) ⊎ ((room < length bytes) × (after ≡ [])))

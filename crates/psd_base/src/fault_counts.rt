@@ -1,9 +1,7 @@
 //! How many reads of each input, and writes to each outlet, failed.
-ghost use Rattle.std.specs.Prelude.{◌≡◌, ◌≤◌};
-ghost use Rattle.psd_base.specs.declared.outlet.Input.{Input};
-ghost use Rattle.psd_base.specs.declared.outlet.Outlet.{Outlet};
-ghost use Rattle.psd_base.specs.Desk.{Rose};
-ghost use Rattle.psd_base.specs.FaultCounts.{no_faults, reads_failed, writes_failed, with_failed_read, with_failed_write};
+ghost use Rattle.std.specs.Prelude.{◌≡◌};
+ghost use Rattle.psd_base.specs.Desk.{OnlyReads, OnlyWrites, ReadFailed, WriteFailed, silent};
+ghost use Rattle.psd_base.specs.FaultCounts.{no_faults, with_failed_read, with_failed_write};
 
 use crate::outlet::{Input, Outlet};
 use crate::places::{INPUTS, OUTLETS, input_place, outlet_place};
@@ -38,8 +36,8 @@ impl FaultCounts {
     /// Counts a failed read of this input.
     pub fn count_read(&mut self, from: &Input)
         ensures after { self.new ≡ with_failed_read self.old from.now }
-        ensures rose { Rose (reads_failed self.old from.now) (reads_failed self.new from.now) }
-        ensures none_falls { (input : Input) → reads_failed self.old input ≤ reads_failed self.new input }
+        ensures failed { ReadFailed from.now (silent self.old) (silent self.new) }
+        ensures only { OnlyReads from.now (silent self.old) (silent self.new) }
     {
         let count = &mut self.reads[input_place(from)];
         *count = count.saturating_add(1);
@@ -48,8 +46,8 @@ impl FaultCounts {
     /// Counts a failed write to this outlet.
     pub fn count_write(&mut self, to: &Outlet)
         ensures after { self.new ≡ with_failed_write self.old to.now }
-        ensures rose { Rose (writes_failed self.old to.now) (writes_failed self.new to.now) }
-        ensures none_falls { (outlet : Outlet) → writes_failed self.old outlet ≤ writes_failed self.new outlet }
+        ensures failed { WriteFailed to.now (silent self.old) (silent self.new) }
+        ensures only { OnlyWrites to.now (silent self.old) (silent self.new) }
     {
         let count = &mut self.writes[outlet_place(to)];
         *count = count.saturating_add(1);

@@ -2,6 +2,7 @@
 //!
 //! No contract can say what a file gives or takes, so this desk tells nothing of bytes: here the proofs end.
 ghost use Rattle.std.specs.Prelude.{◌≡◌, IfErr};
+ghost use Rattle.psd_base.specs.Desk.{silent};
 ghost use Rattle.psd_base.specs.FaultCounts.{no_faults};
 
 use crate::desk::{Desk, DeskFailed};
@@ -11,6 +12,7 @@ use crate::places::{INPUTS, OUTLETS, input_place, outlet_place};
 use crate::port::{MAX_PORTS, PortId};
 use crate::sink::Sink;
 use crate::source::Source;
+use std::alloc::AllocError;
 use std::array;
 use std::rt::Files;
 
@@ -19,8 +21,9 @@ use std::rt::Files;
 /// takes text alone.
 ///
 /// Each file is opened at its first use. A missing `rules.toml` or `buttons.txt` reads as empty. The first write to a
-/// file makes it anew, also a write of no bytes. Written bytes wait in a buffer of their outlet until there are too
-/// many, or until `close`: without it they are lost. An outlet that failed once fails from then on.
+/// file makes it anew, also a write of no bytes. Reads and writes take no memory: after `reserve` written bytes wait in
+/// a buffer of their outlet until there are too many, or until `close`, without which they are lost; before it, and to
+/// standard error, each write goes out at once. An outlet that failed once fails from then on.
 #[derive(Drop)]
 pub struct FileDesk<R: Files> {
     rt: R,
@@ -30,20 +33,38 @@ pub struct FileDesk<R: Files> {
 }
 
 impl<R: Files + Print + Eprint + AllocGlobal + Drop> FileDesk<R> {
-    ghost use Rattle.psd_base.specs.declared.outlet.Input.{Input};
-    ghost use Rattle.psd_base.specs.declared.outlet.Outlet.{Outlet};
-
     /// The desk of the current folder, with the runtime that `main` was given. Nothing is opened yet.
     pub fn new(rt: R) -> FileDesk<R>
-        ensures reads { (input : Input) → ⟦<FileDesk<R> as Desk>⟧.read_faults result input ≡ 0 }
-        ensures writes { (outlet : Outlet) → ⟦<FileDesk<R> as Desk>⟧.write_faults result outlet ≡ 0 }
+        ensures { ⟦<FileDesk<R> as Desk>⟧.told result ≡ silent no_faults }
     {
+        let alloc = rt.alloc();
         FileDesk {
             rt,
             sources: [Source::Unused, Source::Unused, Source::Unused],
-            sinks: array::from_fn(|_| Sink::Unused),
+            sinks: array::from_fn(|_| Sink::Unused(Vec::new(alloc))),
             faults: FaultCounts::new(),
         }
+    }
+
+    /// Takes the buffers of all outlets but standard error, before anything is written. It moves nothing.
+    pub fn reserve(&mut self) -> Result<(), AllocError>
+        ensures { ⟦<FileDesk<R> as Desk>⟧.told self.new ≡ ⟦<FileDesk<R> as Desk>⟧.told self.old }
+    {
+        self.reserve_for(&Outlet::Report)?;
+        self.reserve_for(&Outlet::Console)?;
+        self.reserve_for(&Outlet::Log)?;
+        for number in 1..=MAX_PORTS {
+            if let Some(port) = PortId::new(number) {
+                self.reserve_for(&Outlet::Port(port))?;
+            }
+        }
+        Ok(())
+    }
+
+    fn reserve_for(&mut self, outlet: &Outlet) -> Result<(), AllocError>
+        ensures { ⟦<FileDesk<R> as Desk>⟧.told self.new ≡ ⟦<FileDesk<R> as Desk>⟧.told self.old }
+    {
+        self.sinks[outlet_place(outlet)].reserve(self.rt.alloc())
     }
 
     /// Writes out what waits for the console, the log, the ports, the report and the faults, in this order, and stops
@@ -72,16 +93,9 @@ impl<R: Files + Print + Eprint + AllocGlobal + Drop> FileDesk<R> {
 }
 
 impl<R: Files + Print + Eprint + AllocGlobal + Drop> Desk for FileDesk<R> {
-    ghost use Rattle.std.specs.Prelude.{None};
-    ghost use Rattle.psd_base.specs.FaultCounts.{reads_failed, writes_failed};
+    ghost use Rattle.psd_base.specs.Desk.{silent};
 
-    ghost left = { λ _ _. None };
-
-    ghost sent = { λ _ _. None };
-
-    ghost read_faults = { λ desk input. reads_failed desk.faults input };
-
-    ghost write_faults = { λ desk outlet. writes_failed desk.faults outlet };
+    ghost told = { λ desk. silent desk.faults };
 
     fn read(&mut self, from: Input, into: &mut [u8]) -> Result<usize, DeskFailed> {
         match self.sources[input_place(&from)].read(&self.rt, &from, into) {

@@ -1,6 +1,6 @@
 //! A desk in memory, for tests.
-ghost use Rattle.std.specs.Prelude.{◌≡◌, ◌≢◌, ◌≤◌, ◌<◌, ◌↔◌, ◌++◌, ◌∷◌, [], length, take, drop, replicate, Ok, IsErr, IsSome, IfOk, OnOk, OnErr};
-ghost use Rattle.psd_base.specs.Desk.{Rose};
+ghost use Rattle.std.specs.Prelude.{◌≡◌, ◌≤◌, ◌<◌, ◌↔◌, ◌++◌, ◌∷◌, [], length, take, drop, replicate, Ok, IsErr, IsSome, IfOk, OnOk, OnErr};
+ghost use Rattle.psd_base.specs.Desk.{OnlyReads, OnlyWrites, ReadFailed, WriteFailed};
 ghost use Rattle.psd_base.specs.Calls.{with_failing};
 ghost use Rattle.psd_base.specs.MemoryDesk.{empty_store, new_desk, bytes_sent};
 
@@ -114,20 +114,12 @@ fn stores(alloc: Global, room: u32) -> Result<Vec<Store>, AllocError>
 }
 
 impl Desk for MemoryDesk {
-    ghost use Rattle.std.specs.Prelude.{Some};
     ghost use Rattle.psd_base.specs.declared.outlet.Input.{Input};
     ghost use Rattle.psd_base.specs.declared.outlet.Outlet.{Outlet};
-    ghost use Rattle.psd_base.specs.FaultCounts.{reads_failed, writes_failed};
     ghost use Rattle.psd_base.specs.Calls.{next_failure};
-    ghost use Rattle.psd_base.specs.MemoryDesk.{left_of, bytes_given, bytes_kept, after_read, after_failed_read, after_write, after_failed_write, WriteFails};
+    ghost use Rattle.psd_base.specs.MemoryDesk.{left_of, told_by, bytes_given, bytes_kept, after_read, after_failed_read, after_write, after_failed_write, WriteFails};
 
-    ghost left = { λ desk input. Some (left_of desk input) };
-
-    ghost sent = { λ desk outlet. Some (bytes_sent desk outlet) };
-
-    ghost read_faults = { λ desk input. reads_failed desk.faults input };
-
-    ghost write_faults = { λ desk outlet. writes_failed desk.faults outlet };
+    ghost told = { told_by };
 
     /// Fails exactly at a listed call. It gives as many bytes as are left, fit into the slice and may come at once.
     fn read(&mut self, from: Input, into: &mut [u8]) -> Result<usize, DeskFailed>
@@ -143,11 +135,9 @@ impl Desk for MemoryDesk {
         ensures moved { IfOk result (λ count. left_of self.old from ≡ take count into.new ++ left_of self.new from) }
         ensures ended { result ≡ Ok 0 → 0 < length into.old → left_of self.old from ≡ [] }
         ensures stays { OnErr result (left_of self.new from ≡ left_of self.old from) }
-        ensures failed { OnErr result (Rose (reads_failed self.old.faults from) (reads_failed self.new.faults from)) }
-        ensures other_inputs { (input : Input) → input ≢ from → left_of self.new input ≡ left_of self.old input }
-        ensures outlets { (outlet : Outlet) → bytes_sent self.new outlet ≡ bytes_sent self.old outlet }
-        ensures read_counts { (input : Input) → reads_failed self.old.faults input ≤ reads_failed self.new.faults input }
-        ensures write_counts { (outlet : Outlet) → writes_failed self.old.faults outlet ≤ writes_failed self.new.faults outlet }
+        ensures failed { OnErr result (ReadFailed from (told_by self.old) (told_by self.new)) }
+        ensures uncounted { OnOk result ((input : Input) → (told_by self.new).read_faults input ≡ (told_by self.old).read_faults input) }
+        ensures only { OnlyReads from (told_by self.old) (told_by self.new) }
     {
         match self.reads.next() {
             None => Ok(self.inputs[input_place(&from)].read(into, self.piece)),
@@ -168,11 +158,9 @@ impl Desk for MemoryDesk {
         // The clauses of every desk.
         ensures appended { OnOk result (bytes_sent self.new to ≡ bytes_sent self.old to ++ bytes.now) }
         ensures part { OnErr result (bytes_sent self.new to ≡ bytes_sent self.old to ++ take (bytes_kept self.old to bytes.now) bytes.now) }
-        ensures failed { OnErr result (Rose (writes_failed self.old.faults to) (writes_failed self.new.faults to)) }
-        ensures other_outlets { (outlet : Outlet) → outlet ≢ to → bytes_sent self.new outlet ≡ bytes_sent self.old outlet }
-        ensures inputs { (input : Input) → left_of self.new input ≡ left_of self.old input }
-        ensures read_counts { (input : Input) → reads_failed self.old.faults input ≤ reads_failed self.new.faults input }
-        ensures write_counts { (outlet : Outlet) → writes_failed self.old.faults outlet ≤ writes_failed self.new.faults outlet }
+        ensures failed { OnErr result (WriteFailed to (told_by self.old) (told_by self.new)) }
+        ensures uncounted { OnOk result ((outlet : Outlet) → (told_by self.new).write_faults outlet ≡ (told_by self.old).write_faults outlet) }
+        ensures only { OnlyWrites to (told_by self.old) (told_by self.new) }
     {
         let place = outlet_place(&to);
         match self.writes.next() {

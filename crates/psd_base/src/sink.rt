@@ -1,14 +1,27 @@
 //! Where the bytes of an outlet go in the current folder, and the buffer in which they wait.
 ghost use Rattle.std.specs.Prelude.{◌≡◌, ◌+◌, ◌≤◌, [], ◌++◌, length, if◌then◌else◌, IsTrue, Ok, IsErr, IfOk, OnOk, OnErr, vec_capacity};
-ghost use Rattle.psd_base.specs.declared.sink.TheConstants.{BUFFER_SIZE};
 
 use crate::outlet::Outlet;
+use crate::port::{MAX_PORTS, PortId};
+use std::alloc::{AllocError, Global};
 use std::io::{self, ErrorKind, Write};
 use std::rt::Files;
 use std::{fs, mem};
 
 /// How many bytes of an outlet wait at most before they are written out.
 pub const BUFFER_SIZE: usize = 65_536;
+
+/// The file of each port's transcript, port 1 first.
+const PORT_FILES: [&str; MAX_PORTS as usize] = [
+    "port1.txt",
+    "port2.txt",
+    "port3.txt",
+    "port4.txt",
+    "port5.txt",
+    "port6.txt",
+    "port7.txt",
+    "port8.txt",
+];
 
 /// Where bytes are written out.
 #[derive(Drop)]
@@ -37,14 +50,14 @@ impl<F: Write> Target<F> {
 pub struct Buffered<F> {
     target: Target<F>,
     waiting: Vec<u8>,
-    ghost has_room: { BUFFER_SIZE ≤ vec_capacity waiting },
 }
 
 impl<F: Write> Buffered<F> {
-    /// Lets these bytes wait, and answers whether there was room for them.
+    /// Lets these bytes wait, and answers whether there was room for them. It takes no memory.
     fn hold(&mut self, bytes: &[u8]) -> bool
-        ensures fits { length self.old.waiting.items + length bytes.now ≤ BUFFER_SIZE → IsTrue result }
+        ensures fits { length self.old.waiting.items + length bytes.now ≤ vec_capacity self.old.waiting → IsTrue result }
         ensures waiting { self.new.waiting.items ≡ (if result then self.old.waiting.items ++ bytes.now else self.old.waiting.items) }
+        ensures room { vec_capacity self.old.waiting ≤ vec_capacity self.new.waiting }
     {
         bytes.len() <= self.waiting.capacity() - self.waiting.len()
             && self.waiting.extend_from_slice(bytes).is_ok()
@@ -52,7 +65,8 @@ impl<F: Write> Buffered<F> {
 
     /// Writes out what waits.
     fn write_out<R: Print + Eprint>(&mut self, rt: &R) -> io::Result<()>
-        ensures { OnOk result (self.new.waiting.items ≡ []) }
+        ensures empty { OnOk result (self.new.waiting.items ≡ []) }
+        ensures room { vec_capacity self.old.waiting ≤ vec_capacity self.new.waiting }
     {
         if !self.waiting.is_empty() {
             self.target.write(rt, self.waiting.as_slice())?;
@@ -65,25 +79,38 @@ impl<F: Write> Buffered<F> {
 /// Where the bytes of an outlet go.
 #[derive(Drop)]
 pub enum Sink<F> {
-    /// Nothing was written yet.
-    Unused,
+    /// Nothing was written yet. The buffer is that in which bytes will wait; without room in it each write goes out at once.
+    Unused(Vec<u8>),
     Open(Buffered<F>),
     /// A write failed, so that some bytes may be lost. Each further one fails too.
     Failed,
 }
 
 impl<F: Write + Drop> Sink<F> {
-    ghost use Rattle.psd_base.specs.Sink.{waiting_in, IsOpen, Takes};
+    ghost use Rattle.psd_base.specs.declared.sink.TheConstants.{BUFFER_SIZE};
+    ghost use Rattle.psd_base.specs.Sink.{room_in, waiting_in, IsFresh, IsOpen, Takes};
+
+    /// Takes the buffer, where nothing was written yet.
+    pub fn reserve(&mut self, alloc: Global) -> Result<(), AllocError>
+        ensures fresh { OnOk result (IsFresh self.old → IsFresh self.new × (BUFFER_SIZE ≤ room_in self.new)) }
+        ensures err { OnErr result (self.new ≡ self.old) }
+    {
+        if let Sink::Unused(waiting) = self {
+            *waiting = Vec::with_capacity(alloc, BUFFER_SIZE)?;
+        }
+        Ok(())
+    }
 
     /// Takes these bytes. The first write makes the outlet's file anew.
-    pub fn write<R: Files<File = F> + Print + Eprint + AllocGlobal>(
+    pub fn write<R: Files<File = F> + Print + Eprint>(
         &mut self,
         rt: &R,
         to: &Outlet,
         bytes: &[u8],
     ) -> io::Result<()>
         ensures opened { OnOk result (IsOpen self.new) }
-        ensures waiting { OnOk result (Takes (waiting_in self.old) (waiting_in self.new) bytes.now) }
+        ensures waiting { OnOk result (Takes (room_in self.old) (waiting_in self.old) (waiting_in self.new) bytes.now) }
+        ensures room { OnOk result (room_in self.old ≤ room_in self.new) }
         ensures failed { OnErr result (self.new ≡ Sink.Failed) }
         ensures stays_failed { self.old ≡ Sink.Failed → IsErr result }
     {
@@ -98,19 +125,23 @@ impl<F: Write + Drop> Sink<F> {
     /// Opens the outlet where it isn't yet, writes out what waits, and takes these bytes.
     #[cold]
     #[inline(never)]
-    fn write_further<R: Files<File = F> + Print + Eprint + AllocGlobal>(
+    fn write_further<R: Files<File = F> + Print + Eprint>(
         &mut self,
         rt: &R,
         to: &Outlet,
         bytes: &[u8],
     ) -> io::Result<()>
         ensures opened { OnOk result (IsOpen self.new) }
-        ensures waiting { OnOk result (Takes [] (waiting_in self.new) bytes.now) }
+        ensures waiting { OnOk result (Takes (room_in self.old) [] (waiting_in self.new) bytes.now) }
+        ensures room { OnOk result (room_in self.old ≤ room_in self.new) }
         ensures failed { OnErr result (self.new ≡ Sink.Failed) }
         ensures stays_failed { self.old ≡ Sink.Failed → IsErr result }
     {
         let mut buffered = match mem::replace(self, Sink::Failed) {
-            Sink::Unused => open(rt, to)?,
+            Sink::Unused(waiting) => Buffered {
+                target: open(rt, to)?,
+                waiting,
+            },
             Sink::Open(buffered) => buffered,
             Sink::Failed => return Err(io::Error::from(ErrorKind::Other)),
         };
@@ -124,38 +155,34 @@ impl<F: Write + Drop> Sink<F> {
 
     /// Writes out what waits. An outlet that failed earlier is passed over.
     pub fn write_out<R: Print + Eprint>(&mut self, rt: &R) -> io::Result<()>
-        ensures waiting { waiting_in self.new ≡ [] }
+        ensures waiting { IsOpen self.old → waiting_in self.new ≡ [] }
         ensures failed { OnErr result (self.new ≡ Sink.Failed) }
-        ensures unused { self.old ≡ Sink.Unused → (result ≡ Ok tt) × (self.new ≡ Sink.Unused) }
+        ensures unused { IsFresh self.old → (result ≡ Ok tt) × (self.new ≡ self.old) }
         ensures passed_over { self.old ≡ Sink.Failed → result ≡ Ok tt }
         ensures stays_open { OnOk result (IsOpen self.old → IsOpen self.new) }
     {
-        match mem::replace(self, Sink::Failed) {
-            Sink::Unused => *self = Sink::Unused,
-            Sink::Open(mut buffered) => {
-                buffered.write_out(rt)?;
-                *self = Sink::Open(buffered);
+        if let Sink::Open(buffered) = self {
+            if let Err(error) = buffered.write_out(rt) {
+                *self = Sink::Failed;
+                return Err(error);
             }
-            Sink::Failed => {}
         }
         Ok(())
     }
 }
 
-/// Opens the target of an outlet, with its buffer. A file is made anew.
-fn open<R: Files + AllocGlobal>(rt: &R, to: &Outlet) -> io::Result<Buffered<R::File>>
-    ensures { IfOk result (λ buffered. buffered.waiting.items ≡ []) }
-{
-    let waiting = Vec::with_capacity(rt.alloc(), BUFFER_SIZE)?;
-    let target = match to {
-        Outlet::Report => Target::StandardOutput,
-        Outlet::Faults => Target::StandardError,
-        Outlet::Console => Target::File(fs::create(rt, "console.txt")?),
-        Outlet::Log => Target::File(fs::create(rt, "rules.log")?),
-        Outlet::Port(port) => {
-            let name = format!(in rt.alloc(); "port{}.txt", port.number())?;
-            Target::File(fs::create(rt, name.as_str())?)
-        }
-    };
-    Ok(Buffered { target, waiting })
+/// Opens the target of an outlet. A file is made anew.
+fn open<R: Files>(rt: &R, to: &Outlet) -> io::Result<Target<R::File>> {
+    match to {
+        Outlet::Report => Ok(Target::StandardOutput),
+        Outlet::Faults => Ok(Target::StandardError),
+        Outlet::Console => Ok(Target::File(fs::create(rt, "console.txt")?)),
+        Outlet::Log => Ok(Target::File(fs::create(rt, "rules.log")?)),
+        Outlet::Port(port) => Ok(Target::File(fs::create(rt, port_file(*port))?)),
+    }
+}
+
+/// The file of a port's transcript.
+fn port_file(port: PortId) -> &'static str {
+    PORT_FILES[port.number() as usize - 1]
 }

@@ -45,9 +45,26 @@ fn read_if_there<F: Read>(file: &mut Option<F>, into: &mut [u8]) -> io::Result<u
     ensures missing { file.old ≡ None → (result ≡ Ok 0) × (file.new ≡ None) }
 {
     match file {
-        Some(file) => file.read(into),
+        Some(file) => read_through(file, into),
         None => Ok(0),
     }
+}
+
+/// Reads from a file, and again where a signal interrupted the read.
+fn read_through<F: Read>(file: &mut F, into: &mut [u8]) -> io::Result<usize>
+    ensures { IfOk result (λ count. count ≤ length into.old) }
+{
+    for _ in 0..u64::MAX {
+        match file.read(into) {
+            Ok(count) => return Ok(count),
+            Err(error) => {
+                if error.kind() != ErrorKind::Interrupted {
+                    return Err(error);
+                }
+            }
+        }
+    }
+    Err(io::Error::from(ErrorKind::Interrupted))
 }
 
 /// Opens the file of an input. The rules and the script need not be there.

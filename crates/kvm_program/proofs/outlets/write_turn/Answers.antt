@@ -10,10 +10,10 @@ use Rattle.kvm_program.proofs.outlets.write_turn.Goals as goal
 
 pub returns-clause-wrote : goal.returns-clause-wrote
 returns-clause-wrote g c = by_outlet where
-  by_outlet : (to : Outlet) → Wrote c.write_notes.result (g.D.Desk.sent c.args.desk.now to) (g.D.Desk.sent c.write_notes.new.desk to) (turn_text to c.args.turn.now.line c.args.tick c.args.turn.now.notes.items)
+  by_outlet : (to : Outlet) → Wrote c.write_notes.result ((g.D.Desk.told c.args.desk.now).sent to) ((g.D.Desk.told c.write_notes.new.desk).sent to) (turn_text to c.args.turn.now.line c.args.tick c.args.turn.now.notes.items)
   by_outlet (outlet.Port port) = Wrote-before c.write_notes.result _ _ _ _ (c.in_ok-write_line.ensures.wrote port) (c.write_notes.ensures.ports port)
-  by_outlet outlet.Log = subst (λ (before : Option (List ℕ)). Wrote c.write_notes.result before (g.D.Desk.sent c.write_notes.new.desk outlet.Log) (notes_text c.args.tick c.args.turn.now.notes.items))
+  by_outlet outlet.Log = subst (λ (before : Option (List ℕ)). Wrote c.write_notes.result before ((g.D.Desk.told c.write_notes.new.desk).sent outlet.Log) (notes_text c.args.tick c.args.turn.now.notes.items))
       c.in_ok-write_line.ensures.log c.write_notes.ensures.wrote
-  by_outlet outlet.Report = Wrote-nothing c.write_notes.result _ _ (c.write_notes.ensures.others.report ∙ c.in_ok-write_line.ensures.others.report)
-  by_outlet outlet.Faults = Wrote-nothing c.write_notes.result _ _ (c.write_notes.ensures.others.faults ∙ c.in_ok-write_line.ensures.others.faults)
-  by_outlet outlet.Console = Wrote-nothing c.write_notes.result _ _ (c.write_notes.ensures.others.console ∙ c.in_ok-write_line.ensures.others.console)
+  by_outlet outlet.Report = Wrote-nothing c.write_notes.result _ _ (c.write_notes.ensures.only.outlets outlet.Report (λ e. e) ∙ c.in_ok-write_line.ensures.only.outlets outlet.Report (λ e. e))
+  by_outlet outlet.Faults = Wrote-nothing c.write_notes.result _ _ (c.write_notes.ensures.only.outlets outlet.Faults (λ e. e) ∙ c.in_ok-write_line.ensures.only.outlets outlet.Faults (λ e. e))
+  by_outlet outlet.Console = Wrote-nothing c.write_notes.result _ _ (c.write_notes.ensures.only.outlets outlet.Console (λ e. e) ∙ c.in_ok-write_line.ensures.only.outlets outlet.Console (λ e. e))

@@ -11,18 +11,17 @@ no_more more is = grind (arith, nat_tests)
 
 pub reads-preserved : goal.reads-preserved
 reads-preserved g c =
-    let left = g.D.Desk.left in
     let before = c.reads.invariant in
     let now = c.read_behind.ensures in
     record {
       within = omega (arith, c.in-Ok.ensures.within, c.read_behind.auto.buffer);
-      told = told_more c.reads.into c.read_behind.new.buffer c.reads.count c.in-Ok.more (left c.args.desk.now input.Rules) (left c.reads.desk input.Rules) (left c.read_behind.new.desk input.Rules)
+      told = told_more c.reads.into c.read_behind.new.buffer c.reads.count c.in-Ok.more ((g.D.Desk.told c.args.desk.now).left input.Rules) ((g.D.Desk.told c.reads.desk).left input.Rules) ((g.D.Desk.told c.read_behind.new.desk).left input.Rules)
           before.told now.kept c.in-Ok.ensures.moved;
-      ended = λ over. ended_more c.read_behind.new.buffer c.reads.count c.in-Ok.more (left c.reads.desk input.Rules) (left c.read_behind.new.desk input.Rules)
+      ended = λ over. ended_more c.read_behind.new.buffer c.reads.count c.in-Ok.more ((g.D.Desk.told c.reads.desk).left input.Rules) ((g.D.Desk.told c.read_behind.new.desk).left input.Rules)
           c.in-Ok.ensures.moved (c.in-Ok.ensures.ended (ap Ok (no_more c.in-Ok.more over)));
       only = record {
-        other_inputs = λ other apart. now.only.other_inputs other apart ∙ before.only.other_inputs other apart;
-        outlets = λ outlet. now.only.outlets outlet ∙ before.only.outlets outlet;
+        inputs = λ other apart. now.only.inputs other apart ∙ before.only.inputs other apart;
+        outlets = λ outlet apart. now.only.outlets outlet apart ∙ before.only.outlets outlet apart;
         read_counts = λ other. omega (arith, now.only.read_counts other, before.only.read_counts other);
         write_counts = λ outlet. omega (arith, now.only.write_counts outlet, before.only.write_counts outlet);
       };

@@ -8,4 +8,4 @@ use Rattle.kvm_program.proofs.rules.read_rule_file.Goals as goal
 pub returns-in-Ok-clause-bytes : goal.returns-in-Ok-clause-bytes
 unfolding front_of
 returns-in-Ok-clause-bytes g c =
-    subst (λ (n : ℕ). IfOk c.read_into.result (λ bytes. IfSome (g.D.Desk.left c.args.desk.now input.Rules) (λ all. bytes.items ≡ take n all))) c.in-Ok.ensures c.read_into.ensures.bytes
+    subst (λ (n : ℕ). IfOk c.read_into.result (λ bytes. IfSome ((g.D.Desk.told c.args.desk.now).left input.Rules) (λ all. bytes.items ≡ take n all))) c.in-Ok.ensures c.read_into.ensures.bytes

@@ -10,12 +10,12 @@ use Rattle.kvm_program.proofs.rules.take_rules.Goals as goal
 
 pub returns-clause-rules : goal.returns-clause-rules
 returns-clause-rules g c =
-    let left = g.D.Desk.left c.args.desk.now input.Rules in
+    let left = (g.D.Desk.told c.args.desk.now).left input.Rules in
     let read = subst (λ (items : List ℕ). IfSome left (λ all. items ≡ front_of all)) (sym c.as_slice.ensures.value) c.in_ok-bytes.ensures.bytes in
     IfOk-weaker c.judge.result _ _ (λ rules is. rules_told left c.as_slice.result.now (Ok (lists_of rules)) read is) c.judge.ensures.rules
 
 pub returns-clause-stop : goal.returns-clause-stop
 returns-clause-stop g c =
-    let left = g.D.Desk.left c.args.desk.now input.Rules in
+    let left = (g.D.Desk.told c.args.desk.now).left input.Rules in
     let read = subst (λ (items : List ℕ). IfSome left (λ all. items ≡ front_of all)) (sym c.as_slice.ensures.value) c.in_ok-bytes.ensures.bytes in
-    IfErr-weaker c.judge.result _ _ (λ stop is. RulesStop-judged left c.as_slice.result.now _ _ stop read is) c.judge.ensures.stop
+    IfErr-weaker c.judge.result _ _ (λ stop is. RulesStop-judged (g.D.Desk.told c.args.desk.now) _ c.as_slice.result.now stop read is) c.judge.ensures.stop

@@ -1,30 +1,32 @@
--- All was served, or served and not reported.
-use Rattle.std.proofs.Common.{ℕ, List, Option, ap, subst, sym, ◌∙◌}
+-- All was served, or served and not reported, or not served.
+use Rattle.std.proofs.Common.{ℕ, ap, ◌∙◌, subst}
 use Rattle.std.proofs.lemmas.Result.{err_from_is_err_and}
-use Rattle.kvm_program.specs.Outlets.{Grew}
-use Rattle.kvm_program.proofs.Parts.{Grew-whole}
+use Rattle.psd_base.specs.declared.outlet.Outlet.TheVariants as outlet
 use Rattle.kvm_program.specs.Report.{summary_of}
-use Rattle.kvm_program.specs.Texts.{text_of}
+use Rattle.kvm_program.proofs.Commands.{Serves-stopped, Serves-unreported, Serves-all}
 use Rattle.kvm_program.proofs.run.run.Goals as goal
 
-pub returns-clause-texts : goal.returns-clause-texts
-returns-clause-texts g c = λ schedule to apart is.
-    subst (λ (after : Option (List ℕ)). Grew (g.D.Desk.sent c.args.desk.now to) after (text_of to schedule.events))
-    (sym (c.in_ok-write_report.ensures.others.other_outlets to apart))
-    ((c.in_ok-serve_events.ensures.finished schedule is).written to)
+pub returns-in_err-serve_events-clause-serves : goal.returns-in_err-serve_events-clause-serves
+returns-in_err-serve_events-clause-serves g c =
+    let p = err_from_is_err_and c.from_residual.result c.from_residual.ensures.1 in
+    rw (p.1, p.2) (λ schedule is.
+    Serves-stopped _ _ (g.D.Desk.told c.args.desk.now) (g.D.Desk.told c.serve_events.new.desk) (λ to. c.in_err-serve_events.ensures.written schedule to is)
+    (c.serve_events.ensures.only.outlets outlet.Report (λ e. e)))
 
-pub returns-in_err-write_report-clause-texts : goal.returns-in_err-write_report-clause-texts
-returns-in_err-write_report-clause-texts g c =
+pub returns-in_err-write_report-clause-serves : goal.returns-in_err-write_report-clause-serves
+returns-in_err-write_report-clause-serves g c =
     let p = err_from_is_err_and c.from_residual-in_err-write_report.result c.from_residual-in_err-write_report.ensures.1 in
-    rw (p.1, p.2, c.in_err-write_report.ensures.stop) (λ schedule to apart is.
-    Grew-whole _ _ _ (subst (λ (after : Option (List ℕ)). Grew (g.D.Desk.sent c.args.desk.now to) after (text_of to schedule.events))
-    (sym (c.in_err-write_report.ensures.others.other_outlets to apart))
-    ((c.in_ok-serve_events.ensures.finished schedule is).written to)))
+    rw (p.1, p.2, c.in_err-write_report.ensures.stop) (λ schedule is.
+    let finished = c.in_ok-serve_events.ensures.finished schedule is in
+    let same = c.summary-summary.ensures.counts schedule.events finished.served finished.counted
+    ∙ ap (λ (ports : ℕ). summary_of ports schedule.events) c.ports-ports.ensures.value in
+    Serves-unreported _ (g.D.Desk.told c.args.desk.now) (g.D.Desk.told c.serve_events.new.desk) (g.D.Desk.told c.write_report.new.desk) finished.written
+    (c.serve_events.ensures.only.outlets outlet.Report (λ e. e)) c.write_report.ensures.only (rw sym same c.in_err-write_report.ensures.wrote))
 
-pub returns-clause-ok : goal.returns-clause-ok
-returns-clause-ok g c = λ schedule is.
-    let finished = c.in_ok-serve_events.ensures.finished schedule is in (
-      finished.whole,
-      c.summary-summary.ensures.counts schedule.events finished.served finished.counted
-          ∙ ap (λ (ports : ℕ). summary_of ports schedule.events) c.ports-ports.ensures.value,
-    )
+pub returns-clause-serves : goal.returns-clause-serves
+returns-clause-serves g c = λ schedule is.
+    let finished = c.in_ok-serve_events.ensures.finished schedule is in
+    let same = c.summary-summary.ensures.counts schedule.events finished.served finished.counted
+    ∙ ap (λ (ports : ℕ). summary_of ports schedule.events) c.ports-ports.ensures.value in
+    Serves-all _ (g.D.Desk.told c.args.desk.now) (g.D.Desk.told c.serve_events.new.desk) (g.D.Desk.told c.write_report.new.desk) c.summary-summary.result finished.written
+    (c.serve_events.ensures.only.outlets outlet.Report (λ e. e)) c.write_report.ensures.only finished.whole same c.in_ok-write_report.ensures.wrote

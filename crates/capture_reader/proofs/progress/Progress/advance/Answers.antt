@@ -9,27 +9,27 @@ use Rattle.capture_reader.proofs.progress.Progress.advance.Goals as goal
 
 pub returns-in-Waiting-clause-end : goal.returns-in-Waiting-clause-end
 returns-in-Waiting-clause-end g c is =
-    let capture_left = g.D.Desk.left c.args.desk.now inputs.Capture in
-    let script_left = g.D.Desk.left c.args.desk.now inputs.Script in
+    let capture_left = (g.D.Desk.told c.args.desk.now).left inputs.Capture in
+    let script_left = (g.D.Desk.told c.args.desk.now).left inputs.Script in
     let end = c.give.ensures.end is in
     ended c.give.new.self c.args.self.now _ capture_left script_left end.0 c.in-Waiting.is end.1 end.2 end.3 (c.give.ensures.rest (not_ok_true c.give.result is) capture_left script_left)
 
 pub returns-in-Waiting-clause-cause : goal.returns-in-Waiting-clause-cause
 returns-in-Waiting-clause-cause g c =
-    let capture_left = g.D.Desk.left c.args.desk.now inputs.Capture in
-    let script_left = g.D.Desk.left c.args.desk.now inputs.Script in
+    let capture_left = (g.D.Desk.told c.args.desk.now).left inputs.Capture in
+    let script_left = (g.D.Desk.told c.args.desk.now).left inputs.Script in
     let before = rest (reading c.args.self.now) capture_left script_left in
-    let reads = g.D.Desk.read_faults c.args.desk.now in
+    let reads = g.D.Desk.told c.args.desk.now in
     IfErr-weaker c.give.result _ _
     (λ stop is. inr (too_long c.give.new.self c.args.self.now before capture_left script_left reads reads stop is.0 is.1 c.in-Waiting.is is.3 is.2 refl)) c.give.ensures.stop
 
 pub returns-in-Ok-clause-end : goal.returns-in-Ok-clause-end
 returns-in-Ok-clause-end g c is =
     let now = c.args.self.now in
-    let capture_left = g.D.Desk.left c.look_at_record.new.desk inputs.Capture in
-    let script_left = g.D.Desk.left c.look_at_record.new.desk inputs.Script in
+    let capture_left = (g.D.Desk.told c.look_at_record.new.desk).left inputs.Capture in
+    let script_left = (g.D.Desk.told c.look_at_record.new.desk).left inputs.Script in
     let looked = c.look_at_record.ensures.rest script_left
-    ∙ ap (rest (reading now) (g.D.Desk.left c.args.desk.now inputs.Capture)) (c.look_at_record.ensures.only.other_inputs inputs.Script (λ same. cc)) in
+    ∙ ap (rest (reading now) ((g.D.Desk.told c.args.desk.now).left inputs.Capture)) (c.look_at_record.ensures.only.inputs inputs.Script (λ same. cc)) in
     let end = c.give-in-Ok.ensures.end is in
     ended c.give-in-Ok.new.self c.look_at_record.new.self _ capture_left script_left end.0 c.in-Ok.ensures.ok end.1 end.2 end.3
     (c.give-in-Ok.ensures.rest (not_ok_true c.give-in-Ok.result is) capture_left script_left ∙ looked)
@@ -37,13 +37,13 @@ returns-in-Ok-clause-end g c is =
 pub returns-in-Ok-clause-cause : goal.returns-in-Ok-clause-cause
 returns-in-Ok-clause-cause g c =
     let now = c.args.self.now in
-    let capture_left = g.D.Desk.left c.look_at_record.new.desk inputs.Capture in
-    let script_left = g.D.Desk.left c.look_at_record.new.desk inputs.Script in
+    let capture_left = (g.D.Desk.told c.look_at_record.new.desk).left inputs.Capture in
+    let script_left = (g.D.Desk.told c.look_at_record.new.desk).left inputs.Script in
     let looked = c.look_at_record.ensures.rest script_left
-    ∙ ap (rest (reading now) (g.D.Desk.left c.args.desk.now inputs.Capture)) (c.look_at_record.ensures.only.other_inputs inputs.Script (λ same. cc)) in
-    let before = rest (reading now) (g.D.Desk.left c.args.desk.now inputs.Capture) (g.D.Desk.left c.args.desk.now inputs.Script) in
+    ∙ ap (rest (reading now) ((g.D.Desk.told c.args.desk.now).left inputs.Capture)) (c.look_at_record.ensures.only.inputs inputs.Script (λ same. cc)) in
+    let before = rest (reading now) ((g.D.Desk.told c.args.desk.now).left inputs.Capture) ((g.D.Desk.told c.args.desk.now).left inputs.Script) in
     IfErr-weaker c.give-in-Ok.result _ _
-    (λ stop is. inr (too_long c.give-in-Ok.new.self c.look_at_record.new.self before capture_left script_left (g.D.Desk.read_faults c.args.desk.now) (g.D.Desk.read_faults c.look_at_record.new.desk) stop
+    (λ stop is. inr (too_long c.give-in-Ok.new.self c.look_at_record.new.self before capture_left script_left (g.D.Desk.told c.args.desk.now) (g.D.Desk.told c.look_at_record.new.desk) stop
     is.0 is.1 c.in-Ok.ensures.ok is.3 is.2 looked))
     c.give-in-Ok.ensures.stop
 
@@ -51,23 +51,23 @@ pub returns-in-Err-clause-cause : goal.returns-in-Err-clause-cause
 returns-in-Err-clause-cause g c =
     let now = c.args.self.now in
     let new = c.look_at_record.new.self in
-    let capture_left = g.D.Desk.left c.look_at_record.new.desk inputs.Capture in
-    let script_left = g.D.Desk.left c.look_at_record.new.desk inputs.Script in
+    let capture_left = (g.D.Desk.told c.look_at_record.new.desk).left inputs.Capture in
+    let script_left = (g.D.Desk.told c.look_at_record.new.desk).left inputs.Script in
     let looked = c.look_at_record.ensures.rest script_left
-    ∙ ap (rest (reading now) (g.D.Desk.left c.args.desk.now inputs.Capture)) (c.look_at_record.ensures.only.other_inputs inputs.Script (λ same. cc)) in
-    let before = rest (reading now) (g.D.Desk.left c.args.desk.now inputs.Capture) (g.D.Desk.left c.args.desk.now inputs.Script) in
+    ∙ ap (rest (reading now) ((g.D.Desk.told c.args.desk.now).left inputs.Capture)) (c.look_at_record.ensures.only.inputs inputs.Script (λ same. cc)) in
+    let before = rest (reading now) ((g.D.Desk.told c.args.desk.now).left inputs.Capture) ((g.D.Desk.told c.args.desk.now).left inputs.Script) in
     let counts = c.look_at_record.ensures.counts in
     let failed = c.in-Err.ensures.err in
-    inr (capture_stops new before capture_left script_left (g.D.Desk.read_faults c.args.desk.now) (g.D.Desk.read_faults c.look_at_record.new.desk) c.in-Err.stop c.in-Err.stop
+    inr (capture_stops new before capture_left script_left (g.D.Desk.told c.args.desk.now) (g.D.Desk.told c.look_at_record.new.desk) c.in-Err.stop c.in-Err.stop
     failed.0 failed.1 (lines_still now new counts.4 counts.3 (record_lines now c.requires.sound c.in-GivenRecord.is)) looked failed.2)
 
 pub returns-in-Ok-look_at_line-clause-end : goal.returns-in-Ok-look_at_line-clause-end
 returns-in-Ok-look_at_line-clause-end g c is =
     let now = c.args.self.now in
-    let capture_left = g.D.Desk.left c.look_at_line.new.desk inputs.Capture in
-    let script_left = g.D.Desk.left c.look_at_line.new.desk inputs.Script in
+    let capture_left = (g.D.Desk.told c.look_at_line.new.desk).left inputs.Capture in
+    let script_left = (g.D.Desk.told c.look_at_line.new.desk).left inputs.Script in
     let looked = c.look_at_line.ensures.rest capture_left
-    ∙ ap (λ left. rest (reading now) left (g.D.Desk.left c.args.desk.now inputs.Script)) (c.look_at_line.ensures.only.other_inputs inputs.Capture (λ same. cc)) in
+    ∙ ap (λ left. rest (reading now) left ((g.D.Desk.told c.args.desk.now).left inputs.Script)) (c.look_at_line.ensures.only.inputs inputs.Capture (λ same. cc)) in
     let end = c.give-in-Ok-look_at_line.ensures.end is in
     ended c.give-in-Ok-look_at_line.new.self c.look_at_line.new.self _ capture_left script_left end.0 c.in-Ok-look_at_line.ensures.ok end.1 end.2 end.3
     (c.give-in-Ok-look_at_line.ensures.rest (not_ok_true c.give-in-Ok-look_at_line.result is) capture_left script_left ∙ looked)
@@ -75,13 +75,13 @@ returns-in-Ok-look_at_line-clause-end g c is =
 pub returns-in-Ok-look_at_line-clause-cause : goal.returns-in-Ok-look_at_line-clause-cause
 returns-in-Ok-look_at_line-clause-cause g c =
     let now = c.args.self.now in
-    let capture_left = g.D.Desk.left c.look_at_line.new.desk inputs.Capture in
-    let script_left = g.D.Desk.left c.look_at_line.new.desk inputs.Script in
+    let capture_left = (g.D.Desk.told c.look_at_line.new.desk).left inputs.Capture in
+    let script_left = (g.D.Desk.told c.look_at_line.new.desk).left inputs.Script in
     let looked = c.look_at_line.ensures.rest capture_left
-    ∙ ap (λ left. rest (reading now) left (g.D.Desk.left c.args.desk.now inputs.Script)) (c.look_at_line.ensures.only.other_inputs inputs.Capture (λ same. cc)) in
-    let before = rest (reading now) (g.D.Desk.left c.args.desk.now inputs.Capture) (g.D.Desk.left c.args.desk.now inputs.Script) in
+    ∙ ap (λ left. rest (reading now) left ((g.D.Desk.told c.args.desk.now).left inputs.Script)) (c.look_at_line.ensures.only.inputs inputs.Capture (λ same. cc)) in
+    let before = rest (reading now) ((g.D.Desk.told c.args.desk.now).left inputs.Capture) ((g.D.Desk.told c.args.desk.now).left inputs.Script) in
     IfErr-weaker c.give-in-Ok-look_at_line.result _ _
-    (λ stop is. inr (too_long c.give-in-Ok-look_at_line.new.self c.look_at_line.new.self before capture_left script_left (g.D.Desk.read_faults c.args.desk.now) (g.D.Desk.read_faults c.look_at_line.new.desk) stop
+    (λ stop is. inr (too_long c.give-in-Ok-look_at_line.new.self c.look_at_line.new.self before capture_left script_left (g.D.Desk.told c.args.desk.now) (g.D.Desk.told c.look_at_line.new.desk) stop
     is.0 is.1 c.in-Ok-look_at_line.ensures.ok is.3 is.2 looked))
     c.give-in-Ok-look_at_line.ensures.stop
 
@@ -89,11 +89,11 @@ pub returns-in-Err-look_at_line-clause-cause : goal.returns-in-Err-look_at_line-
 returns-in-Err-look_at_line-clause-cause g c =
     let now = c.args.self.now in
     let new = c.look_at_line.new.self in
-    let capture_left = g.D.Desk.left c.look_at_line.new.desk inputs.Capture in
-    let script_left = g.D.Desk.left c.look_at_line.new.desk inputs.Script in
+    let capture_left = (g.D.Desk.told c.look_at_line.new.desk).left inputs.Capture in
+    let script_left = (g.D.Desk.told c.look_at_line.new.desk).left inputs.Script in
     let looked = c.look_at_line.ensures.rest capture_left
-    ∙ ap (λ left. rest (reading now) left (g.D.Desk.left c.args.desk.now inputs.Script)) (c.look_at_line.ensures.only.other_inputs inputs.Capture (λ same. cc)) in
-    let before = rest (reading now) (g.D.Desk.left c.args.desk.now inputs.Capture) (g.D.Desk.left c.args.desk.now inputs.Script) in
+    ∙ ap (λ left. rest (reading now) left ((g.D.Desk.told c.args.desk.now).left inputs.Script)) (c.look_at_line.ensures.only.inputs inputs.Capture (λ same. cc)) in
+    let before = rest (reading now) ((g.D.Desk.told c.args.desk.now).left inputs.Capture) ((g.D.Desk.told c.args.desk.now).left inputs.Script) in
     let failed = c.in-Err-look_at_line.ensures.err in
-    inr (script_stops new before capture_left script_left (g.D.Desk.read_faults c.args.desk.now) (g.D.Desk.read_faults c.look_at_line.new.desk) c.in-Err-look_at_line.stop c.in-Err-look_at_line.stop
+    inr (script_stops new before capture_left script_left (g.D.Desk.told c.args.desk.now) (g.D.Desk.told c.look_at_line.new.desk) c.in-Err-look_at_line.stop c.in-Err-look_at_line.stop
     failed.0 failed.1 c.look_at_line.ensures.sound.same_ports looked failed.2)

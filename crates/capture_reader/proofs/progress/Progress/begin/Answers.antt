@@ -16,18 +16,18 @@ use Rattle.capture_reader.proofs.progress.Progress.begin.Given as given
 
 -- what was to come before the first looks
 before_looks : (g : given.Over) (c : After-first_line g)
-    → merged c.args.limit (later_of c.in-Ok.capture (g.D.Desk.left c.open.new.desk inputs.Capture)) (later_lines_of c.new-script.result (g.D.Desk.left c.open.new.desk inputs.Script))
-    ≡ schedule_told c.args.limit (g.D.Desk.left c.args.desk.now inputs.Capture) (g.D.Desk.left c.args.desk.now inputs.Script)
+    → merged c.args.limit (later_of c.in-Ok.capture ((g.D.Desk.told c.open.new.desk).left inputs.Capture)) (later_lines_of c.new-script.result ((g.D.Desk.told c.open.new.desk).left inputs.Script))
+    ≡ schedule_told c.args.limit (g.D.Desk.told c.args.desk.now)
 before_looks g c =
     let capture = c.in-Ok.capture in
     let limit = c.args.limit in
-    let left = g.D.Desk.left c.args.desk.now in
-    let opened = g.D.Desk.left c.open.new.desk in
+    let left = (g.D.Desk.told c.args.desk.now).left in
+    let opened = (g.D.Desk.told c.open.new.desk).left in
     let begin = c.in-Ok.ensures.begin in
     let lines = ap (λ (source : ScriptSource). later_lines_of source (opened inputs.Script)) c.new-script.ensures
     ∙ ap (λ (window : Held). later_lines capture.ports 0 1 window (opened inputs.Script)) c.requires.script
     ∙ unread_script capture.ports (opened inputs.Script)
-    ∙ ap (option_map (script capture.ports)) (c.open.ensures.only.other_inputs inputs.Script (λ same. cc)) in
+    ∙ ap (option_map (script capture.ports)) (c.open.ensures.only.inputs inputs.Script (λ same. cc)) in
     let records = ap (λ n. later capture.ports n capture.offset capture.window (opened inputs.Capture)) begin.0
     ∙ ap (λ n. later capture.ports 0 n capture.window (opened inputs.Capture)) begin.1
     ∙ sym c.in-Ok.ensures.records in
@@ -38,7 +38,7 @@ before_looks g c =
 pub returns-in-Ok-clause-ports : goal.returns-in-Ok-clause-ports
 returns-in-Ok-clause-ports g c =
     IfOk-weaker c.first_line.result _ _
-    (λ progress is. port_count_told (g.D.Desk.left c.args.desk.now inputs.Capture) c.in-Ok.capture.ports progress.capture.ports is.4 c.in-Ok.ensures.header) c.first_line.ensures.counts
+    (λ progress is. port_count_told ((g.D.Desk.told c.args.desk.now).left inputs.Capture) c.in-Ok.capture.ports progress.capture.ports is.4 c.in-Ok.ensures.header) c.first_line.ensures.counts
 
 pub returns-in-Ok-clause-rest : goal.returns-in-Ok-clause-rest
 returns-in-Ok-clause-rest g c =
@@ -53,12 +53,12 @@ returns-in-Ok-clause-looked g c =
 pub returns-in-Ok-clause-err : goal.returns-in-Ok-clause-err
 returns-in-Ok-clause-err g c =
     let same = before_looks g (goal.at.returns-in-Ok-clause-err g c).After-first_line in
-    let reads = g.D.Desk.read_faults c.open.new.desk in
-    let reads_after = g.D.Desk.read_faults c.first_line.new.desk in
-    IfErr-weaker c.first_line.result _ _ (λ stop failed. failed_since _ (g.D.Desk.read_faults c.args.desk.now) reads reads_after stop c.open.ensures.only.read_counts failed)
+    let reads = g.D.Desk.told c.open.new.desk in
+    let reads_after = g.D.Desk.told c.first_line.new.desk in
+    IfErr-weaker c.first_line.result _ _ (λ stop failed. failed_since _ (g.D.Desk.told c.args.desk.now) reads reads_after stop c.open.ensures.only.read_counts failed)
     (subst (λ (before : Option Schedule). IfErr c.first_line.result (NewFailed before reads reads_after ⊥)) same c.first_line.ensures.err)
 
 pub returns-in-Err-clause-err : goal.returns-in-Err-clause-err
 returns-in-Err-clause-err g c =
-    let left = g.D.Desk.left c.args.desk.now in
-    open_is_new c.args.limit (left inputs.Capture) (left inputs.Script) (g.D.Desk.read_faults c.args.desk.now) (g.D.Desk.read_faults c.open.new.desk) c.in-Err.stop c.in-Err.ensures.err
+    let left = (g.D.Desk.told c.args.desk.now).left in
+    open_is_new c.args.limit (g.D.Desk.told c.args.desk.now) (g.D.Desk.told c.open.new.desk) c.in-Err.stop c.in-Err.ensures.err

@@ -13,31 +13,31 @@ use Rattle.capture_reader.proofs.progress.Progress.first_line.Goals as goal
 pub returns-in-Ok-clause-rest : goal.returns-in-Ok-clause-rest
 returns-in-Ok-clause-rest g c =
     let capture = c.args.capture in
-    let left = g.D.Desk.left c.args.desk.now in
-    let left_looked = g.D.Desk.left c.look.new.desk in
-    let left_after = g.D.Desk.left c.first_record.new.desk in
-    let same = ap (λ left. merged c.args.limit (later_of capture left) (lines_with_ahead c.look.new.self (left_looked inputs.Script))) (c.look.ensures.only.other_inputs inputs.Capture (λ same. cc))
+    let left = (g.D.Desk.told c.args.desk.now).left in
+    let left_looked = (g.D.Desk.told c.look.new.desk).left in
+    let left_after = (g.D.Desk.told c.first_record.new.desk).left in
+    let same = ap (λ left. merged c.args.limit (later_of capture left) (lines_with_ahead c.look.new.self (left_looked inputs.Script))) (c.look.ensures.only.inputs inputs.Capture (λ same. cc))
     ∙ ap (merged c.args.limit (later_of capture (left inputs.Capture))) (sym c.in-Ok.ensures.read) in
     IfOk-weaker c.first_record.result _ _
-    (λ progress is. ap (rest (reading progress) (left_after inputs.Capture)) (c.first_record.ensures.only.other_inputs inputs.Script (λ same. cc)) ∙ is ∙ same)
+    (λ progress is. ap (rest (reading progress) (left_after inputs.Capture)) (c.first_record.ensures.only.inputs inputs.Script (λ same. cc)) ∙ is ∙ same)
     (c.first_record.ensures.rest (left_looked inputs.Script))
 
 pub returns-in-Ok-clause-err : goal.returns-in-Ok-clause-err
 returns-in-Ok-clause-err g c =
     let capture = c.args.capture in
-    let left = g.D.Desk.left c.args.desk.now in
-    let left_looked = g.D.Desk.left c.look.new.desk in
-    let reads_looked = g.D.Desk.read_faults c.look.new.desk in
-    let reads_after = g.D.Desk.read_faults c.first_record.new.desk in
-    let same = ap (λ left. merged c.args.limit (later_of capture left) (lines_with_ahead c.look.new.self (left_looked inputs.Script))) (c.look.ensures.only.other_inputs inputs.Capture (λ same. cc))
+    let left = (g.D.Desk.told c.args.desk.now).left in
+    let left_looked = (g.D.Desk.told c.look.new.desk).left in
+    let reads_looked = g.D.Desk.told c.look.new.desk in
+    let reads_after = g.D.Desk.told c.first_record.new.desk in
+    let same = ap (λ left. merged c.args.limit (later_of capture left) (lines_with_ahead c.look.new.self (left_looked inputs.Script))) (c.look.ensures.only.inputs inputs.Capture (λ same. cc))
     ∙ ap (merged c.args.limit (later_of capture (left inputs.Capture))) (sym c.in-Ok.ensures.read) in
     IfErr-weaker c.first_record.result _ _
-    (λ stop failed. failed_since _ (g.D.Desk.read_faults c.args.desk.now) reads_looked reads_after stop c.look.ensures.only.read_counts
+    (λ stop failed. failed_since _ (g.D.Desk.told c.args.desk.now) reads_looked reads_after stop c.look.ensures.only.read_counts
     (subst (λ (before : Option Schedule). NewFailed before reads_looked reads_after ⊥ stop) same failed))
     (c.first_record.ensures.err (left_looked inputs.Script))
 
 pub returns-in-Err-clause-err : goal.returns-in-Err-clause-err
 returns-in-Err-clause-err g c =
-    let left = g.D.Desk.left c.args.desk.now in
-    script_failed c.look.new.self c.args.limit (later_of c.args.capture (left inputs.Capture)) (later_lines_of c.args.script (left inputs.Script)) (g.D.Desk.left c.look.new.desk inputs.Script)
-    (g.D.Desk.read_faults c.args.desk.now) (g.D.Desk.read_faults c.look.new.desk) c.in-Err.stop c.in-Err.ensures.stays c.in-Err.ensures.err
+    let left = (g.D.Desk.told c.args.desk.now).left in
+    script_failed c.look.new.self c.args.limit (later_of c.args.capture (left inputs.Capture)) (later_lines_of c.args.script (left inputs.Script)) ((g.D.Desk.told c.look.new.desk).left inputs.Script)
+    (g.D.Desk.told c.args.desk.now) (g.D.Desk.told c.look.new.desk) c.in-Err.stop c.in-Err.ensures.stays c.in-Err.ensures.err

@@ -10,16 +10,16 @@ use Rattle.capture_reader.proofs.progress.Progress.look_at_line.Goals as goal
 pub returns-in-Ok-clause-rest : goal.returns-in-Ok-clause-rest
 returns-in-Ok-clause-rest g c capture_left =
     let now = c.args.self.now in
-    let left = g.D.Desk.left c.args.desk.now inputs.Script in
+    let left = (g.D.Desk.told c.args.desk.now).left inputs.Script in
     let ports = c.requires.sound.same_ports in
-    rest_line now.script c.look.new.self now.capture now.limit now.served now.tick capture_left left (g.D.Desk.left c.look.new.desk inputs.Script) ports (c.look.ensures.ports ∙ ports) c.in-Ok.ensures.read
+    rest_line now.script c.look.new.self now.capture now.limit now.served now.tick capture_left left ((g.D.Desk.told c.look.new.desk).left inputs.Script) ports (c.look.ensures.ports ∙ ports) c.in-Ok.ensures.read
     ∙ ap (λ (state : State). rest (reading (record now { state = state })) capture_left left) (sym c.requires.given)
 
 pub returns-in-Err-clause-rest : goal.returns-in-Err-clause-rest
 returns-in-Err-clause-rest g c capture_left =
     let now = c.args.self.now in
-    let left = g.D.Desk.left c.args.desk.now inputs.Script in
+    let left = (g.D.Desk.told c.args.desk.now).left inputs.Script in
     let ports = c.requires.sound.same_ports in
-    rest_line-failed now.script c.look.new.self now.capture now.limit now.served now.tick c.in-Err.stop capture_left left (g.D.Desk.left c.look.new.desk inputs.Script) ports (c.look.ensures.ports ∙ ports)
+    rest_line-failed now.script c.look.new.self now.capture now.limit now.served now.tick c.in-Err.stop capture_left left ((g.D.Desk.told c.look.new.desk).left inputs.Script) ports (c.look.ensures.ports ∙ ports)
     c.in-Err.ensures.none c.in-Err.ensures.stays
     ∙ ap (λ (state : State). rest (reading (record now { state = state })) capture_left left) (sym c.requires.given)

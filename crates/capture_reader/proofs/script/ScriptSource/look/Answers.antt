@@ -12,8 +12,8 @@ pub returns-in-Ok-clause-read : goal.returns-in-Ok-clause-read
 returns-in-Ok-clause-read g c =
     let now = c.args.self.now in
     let new = c.take_line.new.self in
-    let left = g.D.Desk.left c.args.desk.now inputs.Script in
-    let left_after = g.D.Desk.left c.hold_line.new.desk inputs.Script in
+    let left = (g.D.Desk.told c.args.desk.now).left inputs.Script in
+    let left_after = (g.D.Desk.told c.hold_line.new.desk).left inputs.Script in
     let before = later_lines_still now.ports now.tick now.line now.window c.hold_line.new.self left left_after c.hold_line.ensures.still in
     on_ok_weaker c.take_line.result
     (λ moves. before ∙ later_lines_move now.ports now.tick now.line new.ports new.tick new.line c.hold_line.new.self new.window (option_map seen new.ahead) left_after moves)
@@ -22,17 +22,17 @@ returns-in-Ok-clause-read g c =
 pub returns-in-Ok-clause-stays : goal.returns-in-Ok-clause-stays
 returns-in-Ok-clause-stays g c =
     let now = c.args.self.now in
-    let left = g.D.Desk.left c.args.desk.now inputs.Script in
-    let left_after = g.D.Desk.left c.hold_line.new.desk inputs.Script in
+    let left = (g.D.Desk.told c.args.desk.now).left inputs.Script in
+    let left_after = (g.D.Desk.told c.hold_line.new.desk).left inputs.Script in
     let before = later_lines_still now.ports now.tick now.line now.window c.hold_line.new.self left left_after c.hold_line.ensures.still in
     on_err_weaker c.take_line.result
     (λ same. ap (λ (source : ScriptSource). later_lines source.ports source.tick source.line source.window left_after) same ∙ sym before)
     c.take_line.ensures.same
 
 pub returns-in-Ok-clause-err : goal.returns-in-Ok-clause-err
-returns-in-Ok-clause-err g c = c.take_line.ensures.err (g.D.Desk.read_faults c.args.desk.now inputs.Script) (g.D.Desk.read_faults c.hold_line.new.desk inputs.Script)
+returns-in-Ok-clause-err g c = c.take_line.ensures.err (g.D.Desk.told c.args.desk.now) (g.D.Desk.told c.hold_line.new.desk)
 
 pub returns-in-Err-clause-stays : goal.returns-in-Err-clause-stays
 returns-in-Err-clause-stays g c =
     let now = c.args.self.now in
-    sym (later_lines_still now.ports now.tick now.line now.window c.hold_line.new.self (g.D.Desk.left c.args.desk.now inputs.Script) (g.D.Desk.left c.hold_line.new.desk inputs.Script) c.hold_line.ensures.still)
+    sym (later_lines_still now.ports now.tick now.line now.window c.hold_line.new.self ((g.D.Desk.told c.args.desk.now).left inputs.Script) ((g.D.Desk.told c.hold_line.new.desk).left inputs.Script) c.hold_line.ensures.still)

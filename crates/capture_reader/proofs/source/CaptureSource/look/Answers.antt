@@ -9,35 +9,35 @@ use Rattle.capture_reader.proofs.source.CaptureSource.look.Goals as goal
 pub returns-in-Ok-false-clause-read : goal.returns-in-Ok-false-clause-read
 returns-in-Ok-false-clause-read g c =
     let now = c.args.self.now in
-    let before = later_still now.ports now.tick now.offset now.window c.hold.new.self (g.D.Desk.left c.args.desk.now inputs.Capture) (g.D.Desk.left c.hold.new.desk inputs.Capture) c.hold.ensures.still in
+    let before = later_still now.ports now.tick now.offset now.window c.hold.new.self ((g.D.Desk.told c.args.desk.now).left inputs.Capture) ((g.D.Desk.told c.hold.new.desk).left inputs.Capture) c.hold.ensures.still in
     on_ok_weaker c.end.result (λ _. before ∙ nothing_ahead None _ refl) c.end.ensures.ok
 
 pub returns-in-Ok-false-clause-stays : goal.returns-in-Ok-false-clause-stays
 returns-in-Ok-false-clause-stays g c =
     let now = c.args.self.now in
-    let before = later_still now.ports now.tick now.offset now.window c.hold.new.self (g.D.Desk.left c.args.desk.now inputs.Capture) (g.D.Desk.left c.hold.new.desk inputs.Capture) c.hold.ensures.still in
-    IfErr-weaker c.end.result _ _ (λ stop _. sym before) (c.end.ensures.err 0 0)
+    let before = later_still now.ports now.tick now.offset now.window c.hold.new.self ((g.D.Desk.told c.args.desk.now).left inputs.Capture) ((g.D.Desk.told c.hold.new.desk).left inputs.Capture) c.hold.ensures.still in
+    IfErr-weaker c.end.result _ _ (λ stop _. sym before) (c.end.ensures.err (g.D.Desk.told c.args.desk.now) (g.D.Desk.told c.hold.new.desk))
 
 pub returns-in-Ok-false-clause-err : goal.returns-in-Ok-false-clause-err
-returns-in-Ok-false-clause-err g c = c.end.ensures.err (g.D.Desk.read_faults c.args.desk.now inputs.Capture) (g.D.Desk.read_faults c.hold.new.desk inputs.Capture)
+returns-in-Ok-false-clause-err g c = c.end.ensures.err (g.D.Desk.told c.args.desk.now) (g.D.Desk.told c.hold.new.desk)
 
 pub returns-in-Ok-clause-read : goal.returns-in-Ok-clause-read
 returns-in-Ok-clause-read g c =
     let now = c.args.self.now in
     let new = c.look_at_head.new.self in
-    let before = later_still now.ports now.tick now.offset now.window c.hold.new.self (g.D.Desk.left c.args.desk.now inputs.Capture) (g.D.Desk.left c.hold.new.desk inputs.Capture) c.hold.ensures.still in
-    before ∙ ahead_read new.ahead _ (later_of new (g.D.Desk.left c.look_at_head.new.desk inputs.Capture)) (some_and new.ahead (λ event is. is.1) c.in-Ok.ensures.ok)
+    let before = later_still now.ports now.tick now.offset now.window c.hold.new.self ((g.D.Desk.told c.args.desk.now).left inputs.Capture) ((g.D.Desk.told c.hold.new.desk).left inputs.Capture) c.hold.ensures.still in
+    before ∙ ahead_read new.ahead _ (later_of new ((g.D.Desk.told c.look_at_head.new.desk).left inputs.Capture)) (some_and new.ahead (λ event is. is.1) c.in-Ok.ensures.ok)
 
 pub returns-in-Err-look_at_head-clause-stays : goal.returns-in-Err-look_at_head-clause-stays
 returns-in-Err-look_at_head-clause-stays g c =
     let now = c.args.self.now in
-    let before = later_still now.ports now.tick now.offset now.window c.hold.new.self (g.D.Desk.left c.args.desk.now inputs.Capture) (g.D.Desk.left c.hold.new.desk inputs.Capture) c.hold.ensures.still in
+    let before = later_still now.ports now.tick now.offset now.window c.hold.new.self ((g.D.Desk.told c.args.desk.now).left inputs.Capture) ((g.D.Desk.told c.hold.new.desk).left inputs.Capture) c.hold.ensures.still in
     c.in-Err-look_at_head.ensures.stays ∙ sym before
 
 pub returns-in-Err-clause-stays : goal.returns-in-Err-clause-stays
 returns-in-Err-clause-stays g c =
     let now = c.args.self.now in
-    sym (later_still now.ports now.tick now.offset now.window c.hold.new.self (g.D.Desk.left c.args.desk.now inputs.Capture) (g.D.Desk.left c.hold.new.desk inputs.Capture) c.hold.ensures.still)
+    sym (later_still now.ports now.tick now.offset now.window c.hold.new.self ((g.D.Desk.told c.args.desk.now).left inputs.Capture) ((g.D.Desk.told c.hold.new.desk).left inputs.Capture) c.hold.ensures.still)
 
 pub returns-in-Err-clause-err : goal.returns-in-Err-clause-err
 returns-in-Err-clause-err g c = (c.in-Err.ensures.failed, partial_short _ _ _ c.hold.new.self c.in-Err.ensures.short)

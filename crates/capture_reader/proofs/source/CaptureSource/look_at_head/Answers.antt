@@ -10,7 +10,7 @@ use Rattle.capture_reader.proofs.source.CaptureSource.look_at_head.Goals as goal
 pub returns-in-Err-clause-err : goal.returns-in-Err-clause-err
 returns-in-Err-clause-err g c =
     let now = c.args.self.now in
-    let faults = g.D.Desk.read_faults c.args.desk.now inputs.Capture in
+    let faults = g.D.Desk.told c.args.desk.now in
     let head = c.read_head-head.ensures ∙ ap head_of c.bytes.ensures in
     subst (λ (stop : Stop). LookFailed now.ports now.tick now.offset now.window faults faults stop) (sym c.fault.ensures)
     (ends_head now.ports now.tick now.offset now.window c.in-Err.why c.requires.whole (ap (announced now.ports now.tick) (sym head) ∙ sym c.in-Err.ensures.value))

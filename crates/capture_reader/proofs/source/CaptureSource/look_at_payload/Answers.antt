@@ -13,8 +13,8 @@ pub returns-in-Ok-true-clause-ok : goal.returns-in-Ok-true-clause-ok
 returns-in-Ok-true-clause-ok g c =
     let now = c.args.self.now in
     let new = c.take_record.new.self in
-    let left = g.D.Desk.left c.args.desk.now inputs.Capture in
-    let left_after = g.D.Desk.left c.hold.new.desk inputs.Capture in
+    let left = (g.D.Desk.told c.args.desk.now).left inputs.Capture in
+    let left_after = (g.D.Desk.told c.hold.new.desk).left inputs.Capture in
     let before = later_still now.ports now.tick now.offset now.window c.hold.new.self left left_after c.hold.ensures.still in
     on_ok_weaker c.take_record.result
     (some_and new.ahead (λ event found.
@@ -24,8 +24,8 @@ returns-in-Ok-true-clause-ok g c =
 pub returns-in-Ok-true-clause-stays : goal.returns-in-Ok-true-clause-stays
 returns-in-Ok-true-clause-stays g c =
     let now = c.args.self.now in
-    let left = g.D.Desk.left c.args.desk.now inputs.Capture in
-    let left_after = g.D.Desk.left c.hold.new.desk inputs.Capture in
+    let left = (g.D.Desk.told c.args.desk.now).left inputs.Capture in
+    let left_after = (g.D.Desk.told c.hold.new.desk).left inputs.Capture in
     let before = later_still now.ports now.tick now.offset now.window c.hold.new.self left left_after c.hold.ensures.still in
     on_err_weaker c.take_record.result
     (λ same. ap (λ (source : CaptureSource). later source.ports source.tick source.offset source.window left_after) same ∙ sym before)
@@ -33,7 +33,7 @@ returns-in-Ok-true-clause-stays g c =
 
 pub returns-in-Ok-true-clause-err : goal.returns-in-Ok-true-clause-err
 returns-in-Ok-true-clause-err g c =
-    c.take_record.ensures.err (g.D.Desk.read_faults c.args.desk.now inputs.Capture) (g.D.Desk.read_faults c.hold.new.desk inputs.Capture)
+    c.take_record.ensures.err (g.D.Desk.told c.args.desk.now) (g.D.Desk.told c.hold.new.desk)
 
 pub returns-in-Ok-false-clause-err : goal.returns-in-Ok-false-clause-err
 returns-in-Ok-false-clause-err g c =
@@ -41,7 +41,7 @@ returns-in-Ok-false-clause-err g c =
     let held = c.hold.new.self in
     let ended = c.in-Ok-false.ensures.ended (ap Ok c.in-Ok-false.field-0-test) in
     let sound = announces_longer now.ports now.tick now.window.bytes held.bytes c.args.head.now c.args.form c.requires.sound c.hold.ensures.front in
-    subst (λ (stop : Stop). LookFailed now.ports now.tick now.offset held (g.D.Desk.read_faults c.args.desk.now inputs.Capture) (g.D.Desk.read_faults c.hold.new.desk inputs.Capture) stop)
+    subst (λ (stop : Stop). LookFailed now.ports now.tick now.offset held (g.D.Desk.told c.args.desk.now) (g.D.Desk.told c.hold.new.desk) stop)
     (sym c.fault.ensures) (ends_cut now.ports now.tick now.offset held c.args.head.now c.args.form sound ended.0 ended.1)
 
 pub returns-in-Err-clause-err : goal.returns-in-Err-clause-err
@@ -53,9 +53,9 @@ returns-in-Err-clause-err g c =
 pub returns-in-Ok-false-clause-stays : goal.returns-in-Ok-false-clause-stays
 returns-in-Ok-false-clause-stays g c =
     let now = c.args.self.now in
-    sym (later_still now.ports now.tick now.offset now.window c.hold.new.self (g.D.Desk.left c.args.desk.now inputs.Capture) (g.D.Desk.left c.hold.new.desk inputs.Capture) c.hold.ensures.still)
+    sym (later_still now.ports now.tick now.offset now.window c.hold.new.self ((g.D.Desk.told c.args.desk.now).left inputs.Capture) ((g.D.Desk.told c.hold.new.desk).left inputs.Capture) c.hold.ensures.still)
 
 pub returns-in-Err-clause-stays : goal.returns-in-Err-clause-stays
 returns-in-Err-clause-stays g c =
     let now = c.args.self.now in
-    sym (later_still now.ports now.tick now.offset now.window c.hold.new.self (g.D.Desk.left c.args.desk.now inputs.Capture) (g.D.Desk.left c.hold.new.desk inputs.Capture) c.hold.ensures.still)
+    sym (later_still now.ports now.tick now.offset now.window c.hold.new.self ((g.D.Desk.told c.args.desk.now).left inputs.Capture) ((g.D.Desk.told c.hold.new.desk).left inputs.Capture) c.hold.ensures.still)

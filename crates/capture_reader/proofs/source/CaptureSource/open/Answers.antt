@@ -10,8 +10,8 @@ use Rattle.capture_reader.proofs.source.CaptureSource.open.Goals as goal
 pub returns-in-Ok-true-clause-header : goal.returns-in-Ok-true-clause-header
 returns-in-Ok-true-clause-header g c =
     let held = c.hold.new.self in
-    let left = g.D.Desk.left c.args.desk.now inputs.Capture in
-    let left_after = g.D.Desk.left c.hold.new.desk inputs.Capture in
+    let left = (g.D.Desk.told c.args.desk.now).left inputs.Capture in
+    let left_after = (g.D.Desk.told c.hold.new.desk).left inputs.Capture in
     let all = all_is held left left_after (c.hold.ensures.still ∙ ap (λ (window : Held). still window left) c.requires) in
     let whole = c.in-Ok-true.ensures.held (ap Ok c.in-Ok-true.field-0-test) in
     IfOk-weaker c.behind_header.result _ _ (λ source is. header_told held left left_after (Ok source.ports) all whole is.0) c.behind_header.ensures.behind
@@ -19,8 +19,8 @@ returns-in-Ok-true-clause-header g c =
 pub returns-in-Ok-true-clause-records : goal.returns-in-Ok-true-clause-records
 returns-in-Ok-true-clause-records g c =
     let held = c.hold.new.self in
-    let left = g.D.Desk.left c.args.desk.now inputs.Capture in
-    let left_after = g.D.Desk.left c.hold.new.desk inputs.Capture in
+    let left = (g.D.Desk.told c.args.desk.now).left inputs.Capture in
+    let left_after = (g.D.Desk.told c.hold.new.desk).left inputs.Capture in
     let all = all_is held left left_after (c.hold.ensures.still ∙ ap (λ (window : Held). still window left) c.requires) in
     let whole = c.in-Ok-true.ensures.held (ap Ok c.in-Ok-true.field-0-test) in
     IfOk-weaker c.behind_header.result _ _
@@ -30,19 +30,19 @@ returns-in-Ok-true-clause-records g c =
 pub returns-in-Ok-true-clause-err : goal.returns-in-Ok-true-clause-err
 returns-in-Ok-true-clause-err g c =
     let held = c.hold.new.self in
-    let left = g.D.Desk.left c.args.desk.now inputs.Capture in
-    let left_after = g.D.Desk.left c.hold.new.desk inputs.Capture in
+    let left = (g.D.Desk.told c.args.desk.now).left inputs.Capture in
+    let left_after = (g.D.Desk.told c.hold.new.desk).left inputs.Capture in
     let all = all_is held left left_after (c.hold.ensures.still ∙ ap (λ (window : Held). still window left) c.requires) in
     let whole = c.in-Ok-true.ensures.held (ap Ok c.in-Ok-true.field-0-test) in
     IfErr-weaker c.behind_header.result _ _
-    (λ stop is. open_failed left _ _ stop is.1 (header_told held left left_after (Err stop) all whole is.0))
+    (λ stop is. open_failed (g.D.Desk.told c.args.desk.now) (g.D.Desk.told c.hold.new.desk) stop is.1 (header_told held left left_after (Err stop) all whole is.0))
     c.behind_header.ensures.err
 
 pub returns-in-Ok-false-clause-err : goal.returns-in-Ok-false-clause-err
 returns-in-Ok-false-clause-err g c =
     let held = c.hold.new.self in
-    let left = g.D.Desk.left c.args.desk.now inputs.Capture in
-    let left_after = g.D.Desk.left c.hold.new.desk inputs.Capture in
+    let left = (g.D.Desk.told c.args.desk.now).left inputs.Capture in
+    let left_after = (g.D.Desk.told c.hold.new.desk).left inputs.Capture in
     let all = all_is held left left_after (c.hold.ensures.still ∙ ap (λ (window : Held). still window left) c.requires) in
     let ended = c.in-Ok-false.ensures.ended (ap Ok c.in-Ok-false.field-0-test) in
     header_cut held left left_after all ended.0 ended.1
