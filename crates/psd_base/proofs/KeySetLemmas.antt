@@ -1,8 +1,8 @@
 -- Key sets: what the union holds, and sets with the same keys.
-use Rattle.std.proofs.Common.{◌≡◌, ℕ, zero, suc, ◌+◌, ◌<◌, ◌≤◌, Bool, true, false, List, [], ◌∷◌, ◌||◌, length, refl, ap, arith, sym, ◌∙◌, ⊎_elim, replicate, slice_set, ◌≢◌, below_more, get_or-set_other, get_or-set_same, length-set}
+use Rattle.std.proofs.Common.{◌≡◌, ℕ, zero, suc, ◌<◌, Bool, true, false, not, ◌&&◌, ◌||◌, List, [], ◌∷◌, length, set, refl, ap, arith, sym, ◌∙◌, ⊎_elim, inl, inr, replicate, get_or-set_other, get_or-set_same, length-set}
 use Rattle.std.proofs.lemmas.List.{get_or-replicate, get_or_past, ext_get_or}
-use Rattle.std.proofs.lemmas.Bool.{cases_lt}
-use Rattle.psd_base.specs.KeySet.{no_keys, has_key, has_no_key, union, IsKeySet}
+use Rattle.std.proofs.lemmas.Bool.{cases_lt, cases_eq}
+use Rattle.psd_base.specs.KeySet.{is_passed_on, no_keys, has_key, with_key, without_key, has_no_key, union, difference, IsKeySet}
 
 pub length-union : (keys others : List Bool) → length (union keys others) ≡ length keys
 length-union [] others = refl
@@ -16,14 +16,6 @@ has_key-union [] (other ∷ others) usage same = absurd (cc)
 has_key-union (down ∷ keys) [] usage same = absurd (cc)
 has_key-union (down ∷ keys) (other ∷ others) zero same = refl
 has_key-union (down ∷ keys) (other ∷ others) (suc usage) same = has_key-union keys others usage (omega arith)
-
-or_true : (b : Bool) → (b || true) ≡ true
-or_true true = refl
-or_true false = refl
-
-or_false : (b : Bool) → (b || false) ≡ b
-or_false true = refl
-or_false false = refl
 
 -- two sets are equal where they have the same keys
 pub same_keys : (keys others : List Bool) → IsKeySet keys → IsKeySet others → ((usage : ℕ) → usage < 256 → has_key keys usage ≡ has_key others usage) → keys ≡ others
@@ -40,44 +32,49 @@ pub no_keys-form : IsKeySet no_keys
 unfolding no_keys
 no_keys-form = record { one_each = refl; passed_on = λ usage _. no_keys-has usage }
 
--- the flags of a union as far as n, and the first set's from n on
-pub record IsUnionBelow (n : ℕ) (keys others now : List Bool) : Type 0 where
-  pub length_kept : length now ≡ 256
-  pub below : (usage : ℕ) → usage < n → has_key now usage ≡ has_key (union keys others) usage
-  pub above : (usage : ℕ) → n ≤ usage → has_key now usage ≡ has_key keys usage
+pub length-difference : (keys others : List Bool) → length (difference keys others) ≡ length keys
+length-difference [] others = refl
+length-difference (down ∷ keys) [] = refl
+length-difference (down ∷ keys) (other ∷ others) = ap suc (length-difference keys others)
 
--- a flag that the other set has
-pub union_with : (keys others now : List Bool) (n : ℕ) → n < 256 → length keys ≡ 256 → length others ≡ 256
-    → has_key others n ≡ true → IsUnionBelow n keys others now → IsUnionBelow (n + 1) keys others (slice_set now n true)
-union_with keys others now n h lk lo is u = record {
-  length_kept = simp length-set u.length_kept;
-  below = below_more _ n
-      (λ usage b. let ne : usage ≢ n = omega arith in rw get_or-set_other (u.below usage b))
-      (let lt : n < length now = omega (arith, u.length_kept) in rw (get_or-set_same, has_key-union keys others n (cc), is) (sym (or_true (has_key keys n))));
-  above = λ usage b. let ne : usage ≢ n = omega arith in rw get_or-set_other (u.above usage (omega arith));
-}
-
--- a flag that the other set lacks
-pub union_without : (keys others now : List Bool) (n : ℕ) → n < 256 → length keys ≡ 256 → length others ≡ 256
-    → has_key others n ≡ false → IsUnionBelow n keys others now → IsUnionBelow (n + 1) keys others now
-union_without keys others now n h lk lo is u = record {
-  length_kept = u.length_kept;
-  below = below_more _ n u.below
-      (rw (has_key-union keys others n (cc), is) (u.above n (omega arith) ∙ sym (or_false (has_key keys n))));
-  above = λ usage b. u.above usage (omega arith);
-}
-
--- all flags are those of the union
-pub union_whole : (keys others now : List Bool) → length keys ≡ 256 → IsUnionBelow 256 keys others now → now ≡ union keys others
-union_whole keys others now lk u =
-    ext_get_or false now (union keys others) (cc (u.length_kept, length-union keys others))
-    (λ usage h. u.below usage (omega (arith, u.length_kept)))
+-- a usage is in the difference where it is in the first set alone
+pub has_key-difference : (keys others : List Bool) (usage : ℕ) → length keys ≡ length others → has_key (difference keys others) usage ≡ (has_key keys usage && not (has_key others usage))
+has_key-difference [] [] usage same = refl
+has_key-difference [] (other ∷ others) usage same = absurd (cc)
+has_key-difference (down ∷ keys) [] usage same = absurd (cc)
+has_key-difference (down ∷ keys) (other ∷ others) zero same = refl
+has_key-difference (down ∷ keys) (other ∷ others) (suc usage) same = has_key-difference keys others usage (omega arith)
 
 -- a union of two sets has the form of a set
 pub union-form : (keys others : List Bool) → IsKeySet keys → IsKeySet others → IsKeySet (union keys others)
 union-form keys others k o = record {
   one_each = cc (length-union keys others, k.one_each);
   passed_on = λ usage h. rw (has_key-union keys others usage (cc (k.one_each, o.one_each)), k.passed_on usage h, o.passed_on usage h) refl;
+}
+
+pub difference-form : (keys others : List Bool) → IsKeySet keys → IsKeySet others → IsKeySet (difference keys others)
+difference-form keys others k o = record {
+  one_each = cc (length-difference keys others, k.one_each);
+  passed_on = λ usage h. rw (has_key-difference keys others usage (cc (k.one_each, o.one_each)), k.passed_on usage h) refl;
+}
+
+pub with_key-form : (keys : List Bool) (usage : ℕ) → IsKeySet keys → is_passed_on usage ≡ true → IsKeySet (with_key keys usage)
+with_key-form keys usage k passed = record {
+  one_each = cc (length-set keys usage true, k.one_each);
+  passed_on = λ other h. rw (get_or-set_other keys usage other true false (λ same. absurd (cc (ap is_passed_on same)))) (k.passed_on other h);
+}
+
+pub without_key-form : (keys : List Bool) (usage : ℕ) → IsKeySet keys → IsKeySet (without_key keys usage)
+without_key-form keys usage k = record {
+  one_each = cc (length-set keys usage false, k.one_each);
+  passed_on = λ other h.
+      elim (cases_eq other usage) [
+        | inl same ↦ elim (cases_lt usage (length keys)) [
+          | inl inside ↦ rw (same, get_or-set_same keys usage false false inside) refl
+          | inr past ↦ get_or_past (set keys usage false) other false (omega (arith, length-set keys usage false))
+        ]
+        | inr apart ↦ rw (get_or-set_other keys usage other false false apart) (k.passed_on other h)
+      ];
 }
 
 -- a set without keys holds none, and is the empty set

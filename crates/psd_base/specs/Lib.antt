@@ -4,6 +4,8 @@ pub mod Event
 pub mod FaultCounts
 pub mod History
 pub mod KeySet
+pub mod KeyWordLaws
+pub mod KeyWords
 pub mod MemoryDesk
 pub mod Places
 pub mod Port

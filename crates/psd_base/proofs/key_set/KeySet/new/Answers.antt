@@ -1,8 +1,9 @@
--- The fields of the empty set.
-use Rattle.psd_base.specs.KeySet.{no_keys}
-use Rattle.psd_base.proofs.KeySetLemmas.{no_keys-form}
+-- No flag is set in words that are 0.
+use Rattle.psd_base.proofs.KeyWordLemmas.{flags_of-none, words_none}
 use Rattle.psd_base.proofs.key_set.KeySet.new.Goals as goal
 
 pub invariant_of-result : goal.invariant_of-result
-unfolding no_keys
-invariant_of-result c = no_keys-form
+invariant_of-result c = words_none
+
+pub returns : goal.returns
+returns c = flags_of-none
