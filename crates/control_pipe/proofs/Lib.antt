@@ -1,5 +1,4 @@
 mod Examples
-pub mod Dues
 pub mod Histories
-pub mod Rows
+pub mod Requests
 pub mod Stages

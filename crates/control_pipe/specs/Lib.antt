@@ -1,5 +1,4 @@
 pub mod Control
-pub mod Decoding
 pub mod Lending
 pub mod PipeStands
 pub mod PipeStep

@@ -4,9 +4,8 @@ use Rattle.psd_base.specs.History.{number_of}
 use Rattle.psd_base.specs.declared.setup.Setup.{Setup}
 use Rattle.control_pipe.specs.declared.registers.Registers.{Registers}
 use Rattle.control_pipe.specs.Transfer.{Transfer, Form, Reading, Writing, NoData, form_of, all_fit, cut_data, packet_count, is_acked_in, is_out, is_open, received, expected_toggle}
-use Rattle.control_pipe.specs.Registers.{halted_at}
 use Rattle.control_pipe.specs.Progress.{Progress, Refusing, DataIn, StatusOut, DataOut, StatusIn}
-use Rattle.control_pipe.specs.Control.{ControlAct, reading_of, address_after, configuration_after, is_halted_after}
+use Rattle.control_pipe.specs.Control.{ControlAct, session_of, registers_after_acts}
 
 -- a pipe as plain data: the device's function, its registers, and how far the last transfer is
 pub record PipeValue (D : Type 0) : Type 0 where
@@ -42,10 +41,8 @@ progress_of (Some transfer) =
 
 -- registers and progress stand for a history of acts, newest first, where they are what the history tells
 pub record ControlStands (registers : Registers) (progress : Progress) (past : List ControlAct) : Type 0 where
-  pub address : registers.address ≡ address_after past
-  pub configuration : registers.configuration ≡ configuration_after past
-  pub halts : (endpoint : ℕ) → halted_at registers endpoint ≡ is_halted_after endpoint past
-  pub progress_is : progress ≡ progress_of (reading_of past).transfer
+  pub registers_are : registers ≡ registers_after_acts past
+  pub progress_is : progress ≡ progress_of (session_of past).transfer
 
 -- a pipe stands for a history whatever its function is, which may be changed from outside
 abbrev pub PipeStands : {D : Type 0} → PipeValue D → List ControlAct → Type 0

@@ -9,19 +9,9 @@ use Rattle.control_pipe.specs.declared.reaction.Effect.{Effect}
 use Rattle.control_pipe.specs.declared.reaction.Effect.TheVariants as effect
 use Rattle.control_pipe.specs.declared.registers.Registers.{Registers}
 use Rattle.control_pipe.specs.declared.request.Request.{Request}
-use Rattle.control_pipe.specs.declared.request.Request.TheVariants.{Standard, Descriptor, ClassIn, ClassOut}
-use Rattle.control_pipe.specs.Requests.{Offer, when}
-use Rattle.control_pipe.specs.Decoding.{request_of}
-use Rattle.control_pipe.specs.Registers.{reset_registers, is_configured, standard_due, registers_after, effect_of}
+use Rattle.control_pipe.specs.Requests.{Offer, request_of, due_for, effect_for, function_for}
+use Rattle.control_pipe.specs.Registers.{reset_registers, registers_after}
 use Rattle.control_pipe.specs.Progress.{Progress, Refusing, begun_progress, in_answer, after_in, completion, out_answer, after_out}
-
--- the data due for a setup
-abbrev pub due_for : Registers → Offer → Option Request → Option (List ℕ)
-due_for registers offer None = None
-due_for registers offer (Some (Standard request)) = standard_due registers request
-due_for registers offer (Some Descriptor) = offer.descriptor
-due_for registers offer (Some ClassIn) = if is_configured registers then offer.class_input else None
-due_for registers offer (Some ClassOut) = when (is_configured registers && offer.class_taken) []
 
 -- the setup and the bytes of the request that an act completes
 abbrev pub completed_by : Registers → Progress → Act → Option (Setup × List ℕ)
@@ -31,40 +21,24 @@ completed_by registers progress (act.Out address endpoint toggle bytes) = None
 completed_by registers progress (act.In address endpoint acked) = if address == registers.address && acked then completion progress else None
 
 -- what a completed request leaves in the registers
-abbrev pub request_registers : Option Request → Registers → Registers
-request_registers None registers = registers
-request_registers (Some (Standard request)) registers = registers_after request registers
-request_registers (Some Descriptor) registers = registers
-request_registers (Some ClassIn) registers = registers
-request_registers (Some ClassOut) registers = registers
+abbrev pub registers_for : Option Request → Registers → Registers
+registers_for None registers = registers
+registers_for (Some request) registers = registers_after request registers
 
 abbrev pub completed_registers : Option (Setup × List ℕ) → Registers → Registers
 completed_registers None registers = registers
-completed_registers (Some done) registers = request_registers (request_of done.0) registers
+completed_registers (Some done) registers = registers_for (request_of done.0) registers
 
 -- what a completed request tells the device
-abbrev pub request_effect : Option Request → Effect
-request_effect None = effect.Nothing
-request_effect (Some (Standard request)) = effect_of request
-request_effect (Some Descriptor) = effect.Nothing
-request_effect (Some ClassIn) = effect.Nothing
-request_effect (Some ClassOut) = effect.Nothing
-
 abbrev pub completed_effect : Option (Setup × List ℕ) → Effect
 completed_effect None = effect.Nothing
-completed_effect (Some done) = request_effect (request_of done.0)
+completed_effect (Some done) = effect_for (request_of done.0)
 
 -- the function after a completed request
-abbrev pub request_function : {D : Type 0} → (List ℕ → D) → Option Request → D → List ℕ → D
-request_function after None device bytes = device
-request_function after (Some (Standard request)) device bytes = device
-request_function after (Some Descriptor) device bytes = device
-request_function after (Some ClassIn) device bytes = device
-request_function after (Some ClassOut) device bytes = after bytes
-
 abbrev pub completed_function : {D : Type 0} → (D → ℕ → Setup → List ℕ → D) → ℕ → Option (Setup × List ℕ) → D → D
 completed_function after_class tick None device = device
-completed_function after_class tick (Some done) device = request_function (after_class device tick done.0) (request_of done.0) device done.1
+completed_function after_class tick (Some done) device =
+    function_for (request_of done.0) (after_class device tick done.0 done.1) device
 
 -- the registers after an act
 abbrev pub registers_at : Registers → Progress → Act → Registers

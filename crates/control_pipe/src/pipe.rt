@@ -1,12 +1,12 @@
 //! The control endpoint of an emulated device.
 ghost use Rattle.std.specs.Prelude.{IsTrue, ◌≡◌, ◌≤◌, ℕ, List, [], ◌∷◌, ◌==◌, length, None, if◌then◌else◌};
-ghost use Rattle.control_pipe.specs.PipeStep.{request_function, request_registers, request_effect};
+ghost use Rattle.control_pipe.specs.PipeStep.{registers_for};
 ghost use Rattle.psd_base.specs.declared.packet.TheConstants.{PACKET_SIZE};
 ghost use Rattle.std.specs.Borrow.{sem};
 ghost use Rattle.control_pipe.specs.Control.{ControlAct, is_control_act, offer_for, offer_at, moment_of, control_answer, control_effect, control_function, address_after, is_configured_after, is_halted_after};
-ghost use Rattle.control_pipe.specs.Decoding.{request_of};
+ghost use Rattle.control_pipe.specs.Requests.{request_of, is_configured, due_for, effect_for, function_for};
 ghost use Rattle.control_pipe.specs.Progress.{Refusing, begun_progress, after_in, in_answer, completion};
-ghost use Rattle.control_pipe.specs.Registers.{is_configured, halted_at, reset_registers};
+ghost use Rattle.control_pipe.specs.Registers.{halted_at, reset_registers};
 
 use crate::function::Function;
 use crate::reaction::{Effect, Reaction};
@@ -38,7 +38,7 @@ impl<F> Model for Pipe<F> {
 impl<F: Function> Pipe<F> {
     ghost use Rattle.control_pipe.specs.PipeStands.{PipeStands};
     ghost use Rattle.control_pipe.specs.Lending.{LendsFunction};
-    ghost use Rattle.control_pipe.specs.PipeStep.{due_for, completed_by, registers_at, progress_at, answer_at, effect_at, completed_function, completed_registers, completed_effect};
+    ghost use Rattle.control_pipe.specs.PipeStep.{completed_by, registers_at, progress_at, answer_at, effect_at, completed_function, completed_registers, completed_effect};
 
     /// A device in its default state: at address 0, not configured, and nothing halted.
     pub fn new(function: F) -> Pipe<F>
@@ -198,7 +198,7 @@ impl<F: Function> Pipe<F> {
                 let due = self.registers.reply(request);
                 self.transfer.begin(setup, due);
             }
-            Some(Request::Descriptor) => {
+            Some(Request::GetDescriptor) => {
                 let due = self.function.descriptor(setup);
                 self.transfer.begin(setup, due);
             }
@@ -283,15 +283,15 @@ fn carry_out<F: Function>(
 ) -> Effect
     requires whole { length done.now.bytes.now ≡ done.now.setup.length }
     requires fits { length done.now.bytes.now ≤ PACKET_SIZE }
-    ensures registers { registers.new ≡ request_registers (request_of done.now.setup) registers.old }
-    ensures function { function.new ≡ request_function (F.after_class function.old tick done.now.setup)
-        (request_of done.now.setup) function.old done.now.bytes.now }
-    ensures effect { result ≡ request_effect (request_of done.now.setup) }
+    ensures registers { registers.new ≡ registers_for (request_of done.now.setup) registers.old }
+    ensures function { function.new ≡ function_for (request_of done.now.setup)
+        (F.after_class function.old tick done.now.setup done.now.bytes.now) function.old }
+    ensures effect { result ≡ effect_for (request_of done.now.setup) }
 {
     match Request::of(&done.setup) {
         None => Effect::Nothing,
         Some(Request::Standard(request)) => registers.complete(request),
-        Some(Request::Descriptor) => Effect::Nothing,
+        Some(Request::GetDescriptor) => Effect::Nothing,
         Some(Request::ClassIn) => Effect::Nothing,
         Some(Request::ClassOut) => {
             function.class_out(tick, &done.setup, done.bytes);

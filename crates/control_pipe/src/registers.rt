@@ -2,10 +2,10 @@
 ghost use Rattle.std.specs.Prelude.{◌≡◌, ◌==◌, ◌&&◌, [], ◌∷◌};
 ghost use Rattle.std.specs.Option.{option_copied};
 ghost use Rattle.std.specs.Prelude.{length, ◌≤◌, IfSome};
-ghost use Rattle.control_pipe.specs.Requests.{when};
+ghost use Rattle.control_pipe.specs.Requests.{when, is_configured, halt_at, status, standard_due, effect_of};
 
 use crate::reaction::Effect;
-use crate::request::Standard;
+use crate::request::{Endpoint, Request, Standard};
 use std::slice;
 
 /// The status of what isn't halted (USB 2.0, 9.4.5).
@@ -27,7 +27,7 @@ pub(crate) struct Registers {
 }
 
 impl Registers {
-    ghost use Rattle.control_pipe.specs.Registers.{reset_registers, registers_after, effect_of, standard_due, halted_at, with_halt};
+    ghost use Rattle.control_pipe.specs.Registers.{reset_registers, registers_after, halted_at, with_halt};
 
     /// The registers after a bus reset.
     pub(crate) fn new() -> Registers
@@ -43,20 +43,31 @@ impl Registers {
 
     /// Whether the device is configured.
     pub(crate) fn is_configured(&self) -> bool
-        ensures { result ≡ (self.now.configuration == 1) }
+        ensures { result ≡ is_configured self.now }
     {
         self.configuration == 1
     }
 
-    /// Whether an endpoint is halted.
-    pub(crate) fn is_halted(&self, endpoint: u8) -> bool
-        ensures { result ≡ halted_at self.now endpoint }
+    /// Whether the endpoint of this number is halted.
+    pub(crate) fn is_halted(&self, number: u8) -> bool
+        ensures { result ≡ halted_at self.now number }
     {
-        match endpoint {
+        match number {
             1 => self.first_halted,
             2 => self.second_halted,
             _ => false,
         }
+    }
+
+    /// The status of an interrupt endpoint.
+    fn status_of(&self, endpoint: Endpoint) -> &'static [u8]
+        ensures { result.now ≡ status (halt_at self.now endpoint) }
+    {
+        let halted = match endpoint {
+            Endpoint::First => self.first_halted,
+            Endpoint::Second => self.second_halted,
+        };
+        if halted { &HALTED_STATUS } else { &STATUS }
     }
 
     /// The data due for a request, or `None` where the device has to be configured, or not to be, and isn't so.
@@ -65,16 +76,10 @@ impl Registers {
         ensures short { IfSome result (λ bytes. length bytes.now ≤ 2) }
     {
         match request {
-            Standard::DeviceStatus => Some(&STATUS),
-            Standard::ControlStatus => Some(&STATUS),
-            Standard::InterfaceStatus => self.if_configured(&STATUS),
-            Standard::EndpointStatus(endpoint) => {
-                self.if_configured(if self.is_halted(endpoint) {
-                    &HALTED_STATUS
-                } else {
-                    &STATUS
-                })
-            }
+            Standard::GetDeviceStatus => Some(&STATUS),
+            Standard::GetControlStatus => Some(&STATUS),
+            Standard::GetInterfaceStatus => self.if_configured(&STATUS),
+            Standard::GetEndpointStatus(endpoint) => self.if_configured(self.status_of(endpoint)),
             Standard::ClearHalt(_) => self.if_configured(&[]),
             Standard::SetHalt(_) => self.if_configured(&[]),
             Standard::SetAddress(_) => {
@@ -84,16 +89,16 @@ impl Registers {
                     Some(&[])
                 }
             }
-            Standard::Configuration => Some(slice::from_ref(&self.configuration)),
+            Standard::GetConfiguration => Some(slice::from_ref(&self.configuration)),
             Standard::SetConfiguration(_) => Some(&[]),
-            Standard::Interface => self.if_configured(&ALTERNATE_SETTING),
+            Standard::GetInterface => self.if_configured(&ALTERNATE_SETTING),
             Standard::SetInterface(_) => self.if_configured(&[]),
         }
     }
 
     /// These bytes, if the device is configured.
     fn if_configured<'a>(&self, bytes: &'a [u8]) -> Option<&'a [u8]>
-        ensures { option_copied result ≡ when (self.now.configuration == 1) bytes.now }
+        ensures { option_copied result ≡ when (is_configured self.now) bytes.now }
     {
         if self.is_configured() {
             Some(bytes)
@@ -104,19 +109,19 @@ impl Registers {
 
     /// Carries out a completed request.
     pub(crate) fn complete(&mut self, request: Standard) -> Effect
-        ensures registers { self.new ≡ registers_after request self.old }
-        ensures effect { result ≡ effect_of request }
+        ensures registers { self.new ≡ registers_after (Request.Standard request) self.old }
+        ensures effect { result ≡ effect_of (Request.Standard request) }
     {
         match request {
-            Standard::DeviceStatus => Effect::Nothing,
-            Standard::InterfaceStatus => Effect::Nothing,
-            Standard::ControlStatus => Effect::Nothing,
-            Standard::EndpointStatus(_) => Effect::Nothing,
-            Standard::Configuration => Effect::Nothing,
-            Standard::Interface => Effect::Nothing,
+            Standard::GetDeviceStatus => Effect::Nothing,
+            Standard::GetInterfaceStatus => Effect::Nothing,
+            Standard::GetControlStatus => Effect::Nothing,
+            Standard::GetEndpointStatus(_) => Effect::Nothing,
+            Standard::GetConfiguration => Effect::Nothing,
+            Standard::GetInterface => Effect::Nothing,
             Standard::ClearHalt(endpoint) => {
                 self.set_halt(endpoint, false);
-                Effect::Restart(endpoint)
+                Effect::Restart(endpoint.number())
             }
             Standard::SetHalt(endpoint) => {
                 self.set_halt(endpoint, true);
@@ -132,18 +137,17 @@ impl Registers {
                 self.second_halted = false;
                 Effect::Configured
             }
-            Standard::SetInterface(endpoint) => Effect::Restart(endpoint),
+            Standard::SetInterface(endpoint) => Effect::Restart(endpoint.number()),
         }
     }
 
-    /// Halts an interrupt endpoint, or ends its halt. Of another endpoint it changes nothing.
-    fn set_halt(&mut self, endpoint: u8, halted: bool)
+    /// Halts an interrupt endpoint, or ends its halt.
+    fn set_halt(&mut self, endpoint: Endpoint, halted: bool)
         ensures { self.new ≡ with_halt endpoint halted self.old }
     {
         match endpoint {
-            1 => self.first_halted = halted,
-            2 => self.second_halted = halted,
-            _ => {}
+            Endpoint::First => self.first_halted = halted,
+            Endpoint::Second => self.second_halted = halted,
         }
     }
 }

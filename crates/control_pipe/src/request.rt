@@ -1,54 +1,65 @@
-//! The requests of an emulated keyboard and mouse (USB 2.0, table 9-3; HID 1.11, 7.2).
-ghost use Rattle.std.specs.Prelude.{◌≡◌, ◌+◌, ◌-◌, ◌&&◌, ◌==◌, nat_lt};
-ghost use Rattle.control_pipe.specs.Requests.{when, names_interface};
-ghost use Rattle.control_pipe.specs.Decoding.{request_of, endpoint_request, is_of_halt};
+//! The requests of an emulated device (USB 2.0, tables 9-2 to 9-4; HID 1.11, 7.2). A setup is decoded here alone.
+ghost use Rattle.std.specs.Prelude.{◌≡◌, ◌+◌, ◌&&◌, ◌==◌, nat_lt};
+ghost use Rattle.control_pipe.specs.Requests.{when, interrupt_endpoint, interface_endpoint, endpoint_number, of_device, of_interface, endpoint_status, halt_of, address_to_set, configuration_to_set, interface_to_set, read_request, write_request, standard_of, request_of};
 
 use psd_base::setup::Setup;
 
-// The kinds of request: who is asked, and whether the data go to the host (USB 2.0, table 9-2).
-const TO_DEVICE: u8 = 0x00;
+/// A kind of request with this bit has its data go to the host (USB 2.0, table 9-2).
+pub(crate) const TO_HOST: u8 = 0x80;
 
-const TO_INTERFACE: u8 = 0x01;
+// Who is asked, and which way the data go (USB 2.0, table 9-2).
+pub(crate) const TO_DEVICE: u8 = 0x00;
 
-const TO_ENDPOINT: u8 = 0x02;
+pub(crate) const TO_INTERFACE: u8 = 0x01;
 
-const FROM_DEVICE: u8 = 0x80;
+pub(crate) const TO_ENDPOINT: u8 = 0x02;
 
-const FROM_INTERFACE: u8 = 0x81;
+pub(crate) const FROM_DEVICE: u8 = 0x80;
 
-const FROM_ENDPOINT: u8 = 0x82;
+pub(crate) const FROM_INTERFACE: u8 = 0x81;
 
-const CLASS_TO_INTERFACE: u8 = 0x21;
+pub(crate) const FROM_ENDPOINT: u8 = 0x82;
 
-const CLASS_FROM_INTERFACE: u8 = 0xa1;
+pub(crate) const CLASS_TO_INTERFACE: u8 = 0x21;
+
+pub(crate) const CLASS_FROM_INTERFACE: u8 = 0xa1;
 
 // The standard requests (USB 2.0, table 9-4).
-const GET_STATUS: u8 = 0x00;
+pub(crate) const GET_STATUS: u8 = 0x00;
 
-const CLEAR_FEATURE: u8 = 0x01;
+pub(crate) const CLEAR_FEATURE: u8 = 0x01;
 
-const SET_FEATURE: u8 = 0x03;
+pub(crate) const SET_FEATURE: u8 = 0x03;
 
-const SET_ADDRESS: u8 = 0x05;
+pub(crate) const SET_ADDRESS: u8 = 0x05;
 
-const GET_DESCRIPTOR: u8 = 0x06;
+pub(crate) const GET_DESCRIPTOR: u8 = 0x06;
 
-const GET_CONFIGURATION: u8 = 0x08;
+pub(crate) const GET_CONFIGURATION: u8 = 0x08;
 
-const SET_CONFIGURATION: u8 = 0x09;
+pub(crate) const SET_CONFIGURATION: u8 = 0x09;
 
-const GET_INTERFACE: u8 = 0x0a;
+pub(crate) const GET_INTERFACE: u8 = 0x0a;
 
-const SET_INTERFACE: u8 = 0x0b;
+pub(crate) const SET_INTERFACE: u8 = 0x0b;
 
-/// The least address that isn't one.
-const ADDRESSES: u16 = 128;
+/// The feature that CLEAR_FEATURE and SET_FEATURE are of, ENDPOINT_HALT (USB 2.0, table 9-6).
+pub(crate) const ENDPOINT_HALT: u16 = 0;
+
+/// The least number that is no address.
+pub(crate) const ADDRESSES: u16 = 128;
 
 /// The configurations are 0, in which the device isn't configured, and 1.
-const CONFIGURATIONS: u16 = 2;
+pub(crate) const CONFIGURATIONS: u16 = 2;
 
-/// The interfaces are 0, which has endpoint 1, and 1, which has endpoint 2.
-const INTERFACES: u16 = 2;
+/// An interrupt endpoint: that of interface 0, or that of interface 1.
+#[derive(Clone, Copy, Debug)]
+pub(crate) enum Endpoint {
+    /// IN endpoint 1.
+    First,
+    /// IN endpoint 2.
+    Second,
+}
 
 /// A request whose fields are right.
 #[derive(Clone, Copy, Debug)]
@@ -56,29 +67,68 @@ pub(crate) enum Request {
     /// A request that every device has, beside GET_DESCRIPTOR.
     Standard(Standard),
     /// GET_DESCRIPTOR of the device or of an interface.
-    Descriptor,
+    GetDescriptor,
     /// A class request of an interface whose data go to the host, if there are any.
     ClassIn,
     /// A class request of an interface whose data come from the host, if there are any.
     ClassOut,
 }
 
-/// A standard request beside GET_DESCRIPTOR. Endpoints are given by their numbers, 1 and 2.
+/// A standard request beside GET_DESCRIPTOR.
 #[derive(Clone, Copy, Debug)]
 pub(crate) enum Standard {
-    DeviceStatus,
-    InterfaceStatus,
+    /// GET_STATUS of the device.
+    GetDeviceStatus,
+    /// GET_STATUS of an interface.
+    GetInterfaceStatus,
     /// GET_STATUS of endpoint 0.
-    ControlStatus,
-    EndpointStatus(u8),
-    ClearHalt(u8),
-    SetHalt(u8),
+    GetControlStatus,
+    /// GET_STATUS of an interrupt endpoint.
+    GetEndpointStatus(Endpoint),
+    /// CLEAR_FEATURE of an interrupt endpoint's halt.
+    ClearHalt(Endpoint),
+    /// SET_FEATURE of an interrupt endpoint's halt.
+    SetHalt(Endpoint),
     SetAddress(u8),
-    Configuration,
+    GetConfiguration,
     SetConfiguration(u8),
-    Interface,
+    GetInterface,
     /// SET_INTERFACE of the interface that has this endpoint.
-    SetInterface(u8),
+    SetInterface(Endpoint),
+}
+
+impl Endpoint {
+    /// The endpoint's number.
+    pub(crate) fn number(self) -> u8
+        ensures { result ≡ endpoint_number self }
+    {
+        match self {
+            Endpoint::First => 1,
+            Endpoint::Second => 2,
+        }
+    }
+
+    /// The interrupt endpoint with this address, as an index gives it.
+    fn at_address(index: u16) -> Option<Endpoint>
+        ensures { result ≡ interrupt_endpoint index }
+    {
+        match index {
+            0x81 => Some(Endpoint::First),
+            0x82 => Some(Endpoint::Second),
+            _ => None,
+        }
+    }
+
+    /// The interrupt endpoint of the interface with this number.
+    fn of_interface(index: u16) -> Option<Endpoint>
+        ensures { result ≡ interface_endpoint index }
+    {
+        match index {
+            0 => Some(Endpoint::First),
+            1 => Some(Endpoint::Second),
+            _ => None,
+        }
+    }
 }
 
 impl Request {
@@ -87,105 +137,121 @@ impl Request {
         ensures { result ≡ request_of setup.now }
     {
         match (setup.kind, setup.request) {
-            (FROM_DEVICE, GET_STATUS) => of_device(setup, Standard::DeviceStatus),
-            (FROM_INTERFACE, GET_STATUS) => of_interface(setup, Standard::InterfaceStatus),
-            (FROM_ENDPOINT, GET_STATUS) => endpoint_status(setup),
-            (TO_ENDPOINT, CLEAR_FEATURE) => {
-                halt_endpoint(setup).map(|endpoint| Request::Standard(Standard::ClearHalt(
-                    endpoint,
-                )))
-            }
-            (TO_ENDPOINT, SET_FEATURE) => {
-                halt_endpoint(setup).map(|endpoint| Request::Standard(Standard::SetHalt(endpoint)))
-            }
-            (TO_DEVICE, SET_ADDRESS) => set_address(setup),
-            (FROM_DEVICE, GET_DESCRIPTOR) => Some(Request::Descriptor),
-            (FROM_INTERFACE, GET_DESCRIPTOR) => Some(Request::Descriptor),
-            (FROM_DEVICE, GET_CONFIGURATION) => of_device(setup, Standard::Configuration),
-            (TO_DEVICE, SET_CONFIGURATION) => set_configuration(setup),
-            (FROM_INTERFACE, GET_INTERFACE) => of_interface(setup, Standard::Interface),
-            (TO_INTERFACE, SET_INTERFACE) => set_interface(setup),
             (CLASS_FROM_INTERFACE, _) => Some(Request::ClassIn),
             (CLASS_TO_INTERFACE, _) => Some(Request::ClassOut),
+            (FROM_DEVICE, GET_DESCRIPTOR) => Some(Request::GetDescriptor),
+            (FROM_INTERFACE, GET_DESCRIPTOR) => Some(Request::GetDescriptor),
+            _ => Standard::of(setup).map(|request| Request::Standard(request)),
+        }
+    }
+}
+
+impl Standard {
+    /// The standard request that a setup is, GET_DESCRIPTOR left out. None of them has data from the host.
+    fn of(setup: &Setup) -> Option<Standard>
+        ensures { result ≡ standard_of setup.now }
+    {
+        if setup.kind >= TO_HOST {
+            return Standard::that_reads(setup);
+        }
+        if setup.length == 0 {
+            return Standard::that_writes(setup);
+        }
+        None
+    }
+
+    fn that_reads(setup: &Setup) -> Option<Standard>
+        ensures { result ≡ read_request setup.now }
+    {
+        match (setup.kind, setup.request) {
+            (FROM_DEVICE, GET_STATUS) => of_device(setup, Standard::GetDeviceStatus),
+            (FROM_INTERFACE, GET_STATUS) => of_interface(setup, Standard::GetInterfaceStatus),
+            (FROM_ENDPOINT, GET_STATUS) => endpoint_status(setup),
+            (FROM_DEVICE, GET_CONFIGURATION) => of_device(setup, Standard::GetConfiguration),
+            (FROM_INTERFACE, GET_INTERFACE) => of_interface(setup, Standard::GetInterface),
+            _ => None,
+        }
+    }
+
+    fn that_writes(setup: &Setup) -> Option<Standard>
+        ensures { result ≡ write_request setup.now }
+    {
+        match (setup.kind, setup.request) {
+            (TO_ENDPOINT, CLEAR_FEATURE) => halt_of(setup).map(|end| Standard::ClearHalt(end)),
+            (TO_ENDPOINT, SET_FEATURE) => halt_of(setup).map(|end| Standard::SetHalt(end)),
+            (TO_DEVICE, SET_ADDRESS) => set_address(setup),
+            (TO_DEVICE, SET_CONFIGURATION) => set_configuration(setup),
+            (TO_INTERFACE, SET_INTERFACE) => set_interface(setup),
             _ => None,
         }
     }
 }
 
 /// A request that reads something of the device.
-fn of_device(setup: &Setup, request: Standard) -> Option<Request>
-    ensures { result ≡ when (setup.now.value == 0 && setup.now.index == 0) (Request.Standard request) }
+fn of_device(setup: &Setup, request: Standard) -> Option<Standard>
+    ensures { result ≡ of_device request setup.now }
 {
-    (setup.value == 0 && setup.index == 0).then_some(Request::Standard(request))
+    (setup.value == 0 && setup.index == 0).then_some(request)
 }
 
 /// A request that reads something of an interface.
-fn of_interface(setup: &Setup, request: Standard) -> Option<Request>
-    ensures { result
-        ≡ when (setup.now.value == 0 && names_interface setup.now.index) (Request.Standard request) }
-{
-    (setup.value == 0 && setup.index < INTERFACES).then_some(Request::Standard(request))
-}
-
-/// GET_STATUS of endpoint 0, in either direction, or of an interrupt endpoint.
-fn endpoint_status(setup: &Setup) -> Option<Request>
-    ensures { result ≡ endpoint_request setup.now }
+fn of_interface(setup: &Setup, request: Standard) -> Option<Standard>
+    ensures { result ≡ of_interface request setup.now }
 {
     if setup.value != 0 {
         return None;
     }
-    match setup.index {
-        0x00 | 0x80 => Some(Request::Standard(Standard::ControlStatus)),
-        0x81 => Some(Request::Standard(Standard::EndpointStatus(1))),
-        0x82 => Some(Request::Standard(Standard::EndpointStatus(2))),
-        _ => None,
+    Endpoint::of_interface(setup.index).map(|_| request)
+}
+
+/// GET_STATUS of endpoint 0, in either direction, or of an interrupt endpoint.
+fn endpoint_status(setup: &Setup) -> Option<Standard>
+    ensures { result ≡ endpoint_status setup.now }
+{
+    if setup.value != 0 {
+        return None;
     }
+    if setup.index == 0x00 || setup.index == 0x80 {
+        return Some(Standard::GetControlStatus);
+    }
+    Endpoint::at_address(setup.index).map(|end| Standard::GetEndpointStatus(end))
 }
 
 /// The interrupt endpoint whose halt CLEAR_FEATURE or SET_FEATURE is of.
-fn halt_endpoint(setup: &Setup) -> Option<u8>
-    ensures { result ≡ when (is_of_halt setup.now) (setup.now.index - 0x80) }
+fn halt_of(setup: &Setup) -> Option<Endpoint>
+    ensures { result ≡ halt_of setup.now }
 {
-    if setup.value != 0 || setup.length != 0 {
+    if setup.value != ENDPOINT_HALT {
         return None;
     }
-    match setup.index {
-        0x81 => Some(1),
-        0x82 => Some(2),
-        _ => None,
-    }
+    Endpoint::at_address(setup.index)
 }
 
-fn set_address(setup: &Setup) -> Option<Request>
-    ensures { result ≡ when (nat_lt setup.now.value 128 && setup.now.index == 0 && setup.now.length == 0)
-        (Request.Standard (Standard.SetAddress setup.now.value)) }
+fn set_address(setup: &Setup) -> Option<Standard>
+    ensures { result ≡ address_to_set setup.now }
 {
-    if setup.value < ADDRESSES && setup.index == 0 && setup.length == 0 {
-        Some(Request::Standard(Standard::SetAddress(setup.value as u8)))
+    if setup.value < ADDRESSES && setup.index == 0 {
+        Some(Standard::SetAddress(setup.value as u8))
     } else {
         None
     }
 }
 
-fn set_configuration(setup: &Setup) -> Option<Request>
-    ensures { result ≡ when (nat_lt setup.now.value 2 && setup.now.index == 0 && setup.now.length == 0)
-        (Request.Standard (Standard.SetConfiguration setup.now.value)) }
+fn set_configuration(setup: &Setup) -> Option<Standard>
+    ensures { result ≡ configuration_to_set setup.now }
 {
-    if setup.value < CONFIGURATIONS && setup.index == 0 && setup.length == 0 {
-        Some(Request::Standard(Standard::SetConfiguration(setup.value as u8)))
+    if setup.value < CONFIGURATIONS && setup.index == 0 {
+        Some(Standard::SetConfiguration(setup.value as u8))
     } else {
         None
     }
 }
 
-fn set_interface(setup: &Setup) -> Option<Request>
-    ensures { result
-        ≡ when (setup.now.value == 0 && names_interface setup.now.index && setup.now.length == 0)
-        (Request.Standard (Standard.SetInterface (setup.now.index + 1))) }
+fn set_interface(setup: &Setup) -> Option<Standard>
+    ensures { result ≡ interface_to_set setup.now }
 {
-    if setup.value == 0 && setup.index < INTERFACES && setup.length == 0 {
-        Some(Request::Standard(Standard::SetInterface(setup.index as u8 + 1)))
-    } else {
-        None
+    if setup.value != 0 {
+        return None;
     }
+    Endpoint::of_interface(setup.index).map(|end| Standard::SetInterface(end))
 }
