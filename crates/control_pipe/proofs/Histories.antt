@@ -121,7 +121,7 @@ begun_transfer setup due = record { setup = setup; due = Some due; maximum = PAC
 
 begun_of_form : (none writes : Bool) (setup : Setup) (due : List ℕ) → none ≡ (setup.length == 0) → writes ≡ nat_lt setup.kind 128
     → progress_of_form (cond none NoData (cond writes Writing Reading)) (record { setup = setup; due = Some due; maximum = PACKET_SIZE; acts = [] })
-    ≡ first_stage (cond none NoData (cond writes Writing Reading)) setup (take setup.length due)
+    ≡ first_stage PACKET_SIZE (cond none NoData (cond writes Writing Reading)) setup (take setup.length due)
 begun_of_form true writes setup due e f = refl
 begun_of_form false true setup due e f = refl
 begun_of_form false false setup due e f =
@@ -130,13 +130,13 @@ begun_of_form false false setup due e f =
       positive n h = omega (arith, h)
 
 progress_of-begun : (setup : Setup) (due : Option (List ℕ))
-    → progress_of (Some (record { setup = setup; due = due; maximum = PACKET_SIZE; acts = [] })) ≡ begun_progress setup due
+    → progress_of (Some (record { setup = setup; due = due; maximum = PACKET_SIZE; acts = [] })) ≡ begun_progress PACKET_SIZE setup due
 progress_of-begun setup None = refl
 progress_of-begun setup (Some due) = begun_of_form (setup.length == 0) (nat_lt setup.kind 128) setup due refl refl
 
 progress_after_setup : (here : Bool) (setup : Setup) (offer : Offer) (session : Session)
     → progress_of (cond here (begun setup offer session) session).transfer
-    ≡ cond here (begun_progress setup (due_for (registers_of session.completed) offer (request_of setup))) (progress_of session.transfer)
+    ≡ cond here (begun_progress PACKET_SIZE setup (due_for (registers_of session.completed) offer (request_of setup))) (progress_of session.transfer)
 progress_after_setup false setup offer session = refl
 progress_after_setup true setup offer session = progress_of-begun setup (due_for (registers_of session.completed) offer (request_of setup))
 

@@ -26,10 +26,12 @@ guarded g true true false x y progress at_end here = at_end
 guarded g true false true x y progress at_end here = here
 guarded g true true true x y progress at_end here = here
 
-reading_answer : (left : Bool) (bytes : List ℕ) (maximum count sent : ℕ)
-    → cond left (answer.Data (sent % 2 == 0) (take maximum (drop (sent * maximum) bytes))) answer.Stall ≡ in_answer (reading_progress left bytes maximum count sent)
-reading_answer true bytes maximum count sent = refl
-reading_answer false bytes maximum count sent = refl
+reading_answer : (no_out left : Bool) (bytes : List ℕ) (maximum count sent : ℕ)
+    → cond (no_out && left) (answer.Data (sent % 2 == 0) (take maximum (drop (sent * maximum) bytes))) answer.Stall
+    ≡ in_answer (reading_progress no_out left bytes maximum count sent)
+reading_answer true true bytes maximum count sent = refl
+reading_answer true false bytes maximum count sent = refl
+reading_answer false left bytes maximum count sent = refl
 
 writing_answer : (whole open_still : Bool) (setup : Setup) (bytes : List ℕ) (next : Bool) → whole ≡ (length bytes == setup.length)
     → cond (whole && open_still) (answer.Data true []) answer.Stall ≡ in_answer (writing_progress open_still setup bytes next)
@@ -45,7 +47,7 @@ status_answer false setup = refl
 in_answer_of_form : (form : Form) (transfer : Transfer) (address endpoint : ℕ) (acked : Bool)
     → cond (is_fit form transfer.setup.length (packet_count transfer) transfer.acts (act.In address endpoint acked)) (reply_to_in form transfer) answer.Stall ≡ in_answer (progress_of_form form transfer)
 in_answer_of_form Reading transfer address endpoint acked =
-    reading_answer (number_of is_out transfer.acts == 0 && nat_lt (number_of is_acked_in transfer.acts) (packet_count transfer)) (cut_data transfer) transfer.maximum (packet_count transfer) (number_of is_acked_in transfer.acts)
+    reading_answer (number_of is_out transfer.acts == 0) (nat_lt (number_of is_acked_in transfer.acts) (packet_count transfer)) (cut_data transfer) transfer.maximum (packet_count transfer) (number_of is_acked_in transfer.acts)
 in_answer_of_form Writing transfer address endpoint acked =
     writing_answer (length (received transfer.acts) == transfer.setup.length) (is_open transfer.acts) transfer.setup (received transfer.acts) (expected_toggle transfer.acts) refl
 in_answer_of_form NoData transfer address endpoint acked = status_answer (is_open transfer.acts) transfer.setup
@@ -60,8 +62,8 @@ transfer_answer-In transfer address endpoint acked =
 -- One IN more
 
 reading_after_in : (acked no_out left left_after : Bool) (bytes : List ℕ) (maximum count sent : ℕ) → left_after ≡ nat_lt (1 + sent) count
-    → cond (no_out && left) (reading_progress (no_out && cond acked left_after left) bytes maximum count (cond acked (1 + sent) sent)) Refusing
-    ≡ after_in acked (reading_progress (no_out && left) bytes maximum count sent)
+    → cond (no_out && left) (reading_progress no_out (cond acked left_after left) bytes maximum count (cond acked (1 + sent) sent)) Refusing
+    ≡ after_in acked (reading_progress no_out left bytes maximum count sent)
 reading_after_in true false left left_after bytes maximum count sent e = refl
 reading_after_in false false left left_after bytes maximum count sent e = refl
 reading_after_in true true false left_after bytes maximum count sent e = refl
@@ -122,10 +124,11 @@ progress_of-In transfer address endpoint acked =
 
 -- One OUT more
 
-reading_out_answer : (fit left : Bool) (toggle : Bool) (packet bytes : List ℕ) (maximum count sent : ℕ) → fit ≡ is_status_out toggle packet
-    → cond fit answer.Ack answer.Stall ≡ out_answer toggle packet (reading_progress left bytes maximum count sent)
-reading_out_answer fit true toggle packet bytes maximum count sent e = rw e refl
-reading_out_answer fit false toggle packet bytes maximum count sent e = rw e refl
+reading_out_answer : (fit no_out left : Bool) (toggle : Bool) (packet bytes : List ℕ) (maximum count sent : ℕ) → fit ≡ is_status_out toggle packet
+    → cond fit answer.Ack answer.Stall ≡ out_answer toggle packet (reading_progress no_out left bytes maximum count sent)
+reading_out_answer fit true true toggle packet bytes maximum count sent e = rw e refl
+reading_out_answer fit true false toggle packet bytes maximum count sent e = rw e refl
+reading_out_answer fit false left toggle packet bytes maximum count sent e = rw e refl
 
 writing_out_answer : (open_still same room : Bool) (toggle : Bool) (packet : List ℕ) (setup : Setup) (bytes : List ℕ) (next : Bool)
     → same ≡ same_toggle toggle next → room ≡ is_room_for packet bytes setup.length
@@ -141,7 +144,7 @@ status_out_answer false toggle packet setup = refl
 out_answer_of_form : (form : Form) (transfer : Transfer) (address endpoint : ℕ) (toggle : Bool) (packet : List ℕ)
     → cond (is_fit form transfer.setup.length (packet_count transfer) transfer.acts (act.Out address endpoint toggle packet)) answer.Ack answer.Stall ≡ out_answer toggle packet (progress_of_form form transfer)
 out_answer_of_form Reading transfer address endpoint toggle packet =
-    reading_out_answer (is_status_out toggle packet) (number_of is_out transfer.acts == 0 && nat_lt (number_of is_acked_in transfer.acts) (packet_count transfer)) toggle packet
+    reading_out_answer (is_status_out toggle packet) (number_of is_out transfer.acts == 0) (nat_lt (number_of is_acked_in transfer.acts) (packet_count transfer)) toggle packet
     (cut_data transfer) transfer.maximum (packet_count transfer) (number_of is_acked_in transfer.acts) refl
 out_answer_of_form Writing transfer address endpoint toggle packet =
     writing_out_answer (is_open transfer.acts) (same_toggle toggle (expected_toggle transfer.acts)) (is_room_for packet (received transfer.acts) transfer.setup.length) toggle packet
@@ -155,10 +158,11 @@ transfer_answer-Out transfer address endpoint toggle packet =
     answer.Ack answer.Stall (progress_of_form (form_of transfer.setup) transfer) refl
     (out_answer_of_form (form_of transfer.setup) transfer address endpoint toggle packet)
 
-reading_after_out : (fit left no_out left_after : Bool) (toggle : Bool) (packet bytes : List ℕ) (maximum count sent : ℕ) → fit ≡ is_status_out toggle packet → no_out ≡ false
-    → cond fit (reading_progress (no_out && left_after) bytes maximum count sent) Refusing ≡ after_out toggle packet (reading_progress left bytes maximum count sent)
-reading_after_out fit true no_out left_after toggle packet bytes maximum count sent e f = rw (e, f) refl
-reading_after_out fit false no_out left_after toggle packet bytes maximum count sent e f = rw (e, f) refl
+reading_after_out : (fit no_out left out_after : Bool) (toggle : Bool) (packet bytes : List ℕ) (maximum count sent : ℕ) → fit ≡ is_status_out toggle packet → out_after ≡ false
+    → cond fit (reading_progress out_after left bytes maximum count sent) Refusing ≡ after_out toggle packet (reading_progress no_out left bytes maximum count sent)
+reading_after_out fit true true out_after toggle packet bytes maximum count sent e f = rw (e, f) refl
+reading_after_out fit true false out_after toggle packet bytes maximum count sent e f = rw (e, f) refl
+reading_after_out fit false left out_after toggle packet bytes maximum count sent e f = rw (e, f) refl
 
 writing_after_out : (open_still same room : Bool) (toggle : Bool) (packet : List ℕ) (setup : Setup) (bytes : List ℕ) (next : Bool)
     → same ≡ same_toggle toggle next → room ≡ is_room_for packet bytes setup.length
@@ -176,8 +180,8 @@ after_out_of_form : (form : Form) (transfer : Transfer) (address endpoint : ℕ)
     → cond (is_fit form transfer.setup.length (packet_count transfer) transfer.acts (act.Out address endpoint toggle packet)) (progress_of_form form (with_act (act.Out address endpoint toggle packet) transfer)) Refusing
     ≡ after_out toggle packet (progress_of_form form transfer)
 after_out_of_form Reading transfer address endpoint toggle packet =
-    reading_after_out (is_status_out toggle packet) (number_of is_out transfer.acts == 0 && nat_lt (number_of is_acked_in transfer.acts) (packet_count transfer))
-    (1 + number_of is_out transfer.acts == 0) (nat_lt (number_of is_acked_in transfer.acts) (packet_count transfer)) toggle packet
+    reading_after_out (is_status_out toggle packet) (number_of is_out transfer.acts == 0) (nat_lt (number_of is_acked_in transfer.acts) (packet_count transfer))
+    (1 + number_of is_out transfer.acts == 0) toggle packet
     (cut_data transfer) transfer.maximum (packet_count transfer) (number_of is_acked_in transfer.acts) refl (one_more (number_of is_out transfer.acts))
 after_out_of_form Writing transfer address endpoint toggle packet =
     writing_after_out (is_open transfer.acts) (same_toggle toggle (expected_toggle transfer.acts)) (is_room_for packet (received transfer.acts) transfer.setup.length) toggle packet
@@ -219,9 +223,10 @@ completes_where true false true true transfer progress here = here refl
 completes_where true true false true transfer progress here = here refl
 completes_where true true true true transfer progress here = here refl
 
-reading_completion : (left : Bool) (bytes : List ℕ) (maximum count sent : ℕ) → None ≡ completion (reading_progress left bytes maximum count sent)
-reading_completion true bytes maximum count sent = refl
-reading_completion false bytes maximum count sent = refl
+reading_completion : (no_out left : Bool) (bytes : List ℕ) (maximum count sent : ℕ) → None ≡ completion (reading_progress no_out left bytes maximum count sent)
+reading_completion true true bytes maximum count sent = refl
+reading_completion true false bytes maximum count sent = refl
+reading_completion false left bytes maximum count sent = refl
 
 writing_completion : (whole open_still : Bool) (setup : Setup) (bytes : List ℕ) (next : Bool) → whole ≡ (length bytes == setup.length)
     → when (whole && open_still) (setup, bytes) ≡ completion (writing_progress open_still setup bytes next)
@@ -239,7 +244,7 @@ completion_of_form : (form : Form) (transfer : Transfer) (address endpoint : ℕ
     → when (has_status_in form && is_fit form transfer.setup.length (packet_count transfer) transfer.acts (act.In address endpoint true)) (contents_of transfer)
     ≡ completion (progress_of_form form transfer)
 completion_of_form Reading transfer address endpoint fits =
-    reading_completion (number_of is_out transfer.acts == 0 && nat_lt (number_of is_acked_in transfer.acts) (packet_count transfer))
+    reading_completion (number_of is_out transfer.acts == 0) (nat_lt (number_of is_acked_in transfer.acts) (packet_count transfer))
     (cut_data transfer) transfer.maximum (packet_count transfer) (number_of is_acked_in transfer.acts)
 completion_of_form Writing transfer address endpoint fits =
     writing_completion (length (received transfer.acts) == transfer.setup.length) (is_open transfer.acts) transfer.setup (received transfer.acts) (expected_toggle transfer.acts) refl

@@ -5,6 +5,7 @@ use Rattle.psd_base.specs.declared.act.Act.{Act}
 use Rattle.psd_base.specs.declared.act.Act.TheVariants as act
 use Rattle.psd_base.specs.declared.act.Answer.{Answer}
 use Rattle.psd_base.specs.declared.act.Answer.TheVariants as answer
+use Rattle.psd_base.specs.declared.packet.TheConstants.{PACKET_SIZE}
 use Rattle.control_pipe.specs.declared.reaction.Effect.{Effect}
 use Rattle.control_pipe.specs.declared.reaction.Effect.TheVariants as effect
 use Rattle.control_pipe.specs.declared.registers.Registers.{Registers}
@@ -58,7 +59,7 @@ effect_at registers progress (act.In address endpoint acked) = completed_effect 
 abbrev pub progress_at : Registers → Progress → Offer → Act → Progress
 progress_at registers progress offer act.Reset = Refusing
 progress_at registers progress offer (act.Setup address setup) =
-    if address == registers.address then begun_progress setup (due_for registers offer (request_of setup)) else progress
+    if address == registers.address then begun_progress PACKET_SIZE setup (due_for registers offer (request_of setup)) else progress
 progress_at registers progress offer (act.Out address endpoint toggle bytes) = if address == registers.address then after_out toggle bytes progress else progress
 progress_at registers progress offer (act.In address endpoint acked) = if address == registers.address then after_in acked progress else progress
 

@@ -186,7 +186,7 @@ impl<F: Function> Pipe<F> {
 
     /// Takes up the request of a setup.
     fn begin(&mut self, setup: &Setup)
-        ensures progress { self.new.progress ≡ begun_progress setup.now (due_for self.old.registers
+        ensures progress { self.new.progress ≡ begun_progress PACKET_SIZE setup.now (due_for self.old.registers
             (offer_for (F.descriptor_of self.old.function) (F.class_input_of self.old.function) F.takes_class setup.now)
             (request_of setup.now)) }
         ensures registers { self.new.registers ≡ self.old.registers }
@@ -216,7 +216,7 @@ impl<F: Function> Pipe<F> {
     /// Takes up a class request that reads.
     fn begin_class_in(&mut self, setup: &Setup)
         requires reads { 128 ≤ setup.now.kind }
-        ensures progress { self.new.progress ≡ begun_progress setup.now
+        ensures progress { self.new.progress ≡ begun_progress PACKET_SIZE setup.now
             (if is_configured self.old.registers then F.class_input_of self.old.function setup.now else None) }
         ensures registers { self.new.registers ≡ self.old.registers }
         ensures function { self.new.function ≡ self.old.function }

@@ -16,8 +16,10 @@ pub(crate) enum Stage {
     Refusing,
     /// The data go to the host, in `count` packets, of which `sent` were acknowledged.
     DataIn { sent: usize, count: usize },
-    /// The host's empty packet, which ends a transfer whose data went to it, is awaited or came already.
+    /// The data are acknowledged, and the host's empty packet, which ends the transfer, is awaited.
     StatusOut,
+    /// The host's empty packet came, and may be repeated.
+    DoneOut,
     /// The data come from the host. `toggle` is that of the next packet.
     DataOut { toggle: bool },
     /// There are no data, and the empty packet that ends the transfer is due.
@@ -38,14 +40,15 @@ impl Model for Transfer {
     ghost Value = { Progress };
 
     ghost use Rattle.control_pipe.specs.TransferFields.{progress_in, IsSound};
+    ghost use Rattle.psd_base.specs.declared.packet.TheConstants.{PACKET_SIZE};
 
-    ghost view = { λ transfer. progress_in transfer.stage transfer.setup transfer.bytes.items };
+    ghost view = { λ transfer. progress_in PACKET_SIZE transfer.stage transfer.setup transfer.bytes.items };
 
-    ghost invariant = { λ transfer. IsSound transfer.stage transfer.setup transfer.bytes.items };
+    ghost invariant = { λ transfer. IsSound PACKET_SIZE PACKET_SIZE transfer.stage transfer.setup transfer.bytes.items };
 }
 
 impl Transfer {
-    ghost use Rattle.control_pipe.specs.Progress.{Progress, Refusing, StatusOut, begun_progress, first_stage, in_answer, after_in, completion, is_status_out, out_answer, after_out};
+    ghost use Rattle.control_pipe.specs.Progress.{Progress, Refusing, DoneOut, begun_progress, first_stage, in_answer, after_in, completion, is_status_out, out_answer, after_out};
 
     /// No transfer yet.
     pub(crate) fn new() -> Transfer
@@ -75,7 +78,7 @@ impl Transfer {
     pub(crate) fn begin(&mut self, setup: &Setup, due: Option<&[u8]>)
         requires short { ForSome due (λ bytes. length bytes.now ≤ BLOCK_SIZE) }
         requires writes_little { ForSome due (λ _. setup.now.kind < 128 → setup.now.length ≤ PACKET_SIZE) }
-        ensures { self.new ≡ begun_progress setup.now (option_copied due.entry) }
+        ensures { self.new ≡ begun_progress PACKET_SIZE setup.now (option_copied due.entry) }
     {
         match due {
             Some(bytes) => self.begin_supported(setup, bytes),
@@ -87,7 +90,7 @@ impl Transfer {
     fn begin_supported(&mut self, setup: &Setup, due: &[u8])
         requires short { length due.now ≤ BLOCK_SIZE }
         requires writes_little { setup.now.kind < 128 → setup.now.length ≤ PACKET_SIZE }
-        ensures { self.new ≡ first_stage (form_of setup.now) setup.now (take setup.now.length due.now) }
+        ensures { self.new ≡ first_stage PACKET_SIZE (form_of setup.now) setup.now (take setup.now.length due.now) }
     {
         self.setup = *setup;
         self.bytes.clear();
@@ -126,6 +129,7 @@ impl Transfer {
                 }
             }
             Stage::StatusOut => self.stall(answer),
+            Stage::DoneOut => self.stall(answer),
             Stage::DataOut { .. } => {
                 if self.bytes.len() == self.setup.length as usize {
                     self.end(acked, answer);
@@ -147,6 +151,7 @@ impl Transfer {
             Stage::Refusing => None,
             Stage::DataIn { .. } => None,
             Stage::StatusOut => None,
+            Stage::DoneOut => None,
             Stage::DataOut { .. } => {
                 if self.bytes.len() == self.setup.length as usize {
                     Some(Completed {
@@ -173,6 +178,7 @@ impl Transfer {
             Stage::Refusing => self.stall(answer),
             Stage::DataIn { .. } => self.take_status(toggle, packet, answer),
             Stage::StatusOut => self.take_status(toggle, packet, answer),
+            Stage::DoneOut => self.take_status(toggle, packet, answer),
             Stage::DataOut { toggle: next } => {
                 if toggle != next {
                     *answer = Answer::Ack;
@@ -195,10 +201,10 @@ impl Transfer {
     /// Takes an OUT that can only be the status stage.
     fn take_status(&mut self, toggle: bool, packet: &[u8], answer: &mut Answer)
         ensures answer { answer.new ≡ (if is_status_out toggle packet.now then Answer.Ack else Answer.Stall) }
-        ensures after { self.new ≡ (if is_status_out toggle packet.now then StatusOut else Refusing) }
+        ensures after { self.new ≡ (if is_status_out toggle packet.now then DoneOut else Refusing) }
     {
         if toggle && packet.is_empty() {
-            self.stage = Stage::StatusOut;
+            self.stage = Stage::DoneOut;
             *answer = Answer::Ack;
         } else {
             self.stall(answer);
