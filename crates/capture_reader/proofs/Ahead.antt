@@ -9,7 +9,8 @@ use Rattle.psd_base.specs.declared.event.Event.{Event}
 use Rattle.psd_base.specs.Event.{Happening, HappensWithin, Seen, happening_of, seen}
 use Rattle.capture_reader.specs.declared.form.Form.{Form}
 use Rattle.capture_reader.specs.declared.form.Head.{Head}
-use Rattle.capture_reader.specs.Capture.{Recording, first, none_until, head_of, size_of, payload_of, announced, happening_in, record_at, records}
+use Rattle.capture_reader.specs.Capture.{head_of, size_of, payload_of, announced, happening_in, record_at, records}
+use Rattle.capture_reader.specs.Schedule.{Schedule, in_front, over}
 use Rattle.capture_reader.specs.Source.{later, after_ahead, Ends, IsPartial, Announces}
 use Rattle.capture_reader.specs.Window.{Held, coming, still, Begins}
 use Rattle.capture_reader.proofs.Records.{records_valid, records_faulty, head_of-append, payload_of-append, record_at-short, record_at-head, record_at-cut, record_at-field, record_at-valid}
@@ -90,24 +91,24 @@ coming_past bytes false left count within = drop-append-le count bytes left with
 pub moves_on : (ports last offset : ℕ) (held : Held) (head : Head) (form : Form) (happening : Happening) → Announces ports last held.bytes head form
     → size_of head ≤ length held.bytes → happening_in form (slice_range held.bytes 8 (size_of head)) ≡ Ok happening → (left : List ℕ)
     → records ports last offset 0 (coming held left)
-    ≡ first (record { tick = head.tick; happening = happening }) (records ports head.tick (offset + size_of head) 0 (coming (record held { bytes = drop (size_of head) held.bytes }) left))
+    ≡ in_front (record { tick = head.tick; happening = happening }) (records ports head.tick (offset + size_of head) 0 (coming (record held { bytes = drop (size_of head) held.bytes }) left))
 moves_on ports last offset held head form happening sound enough valid left =
     let behind = coming_is held.bytes held.ended left in
     let l = longer_sound ports last held.bytes behind.0 head form sound enough in
     let whole : List ℕ = held.bytes ++ behind.0 in
     let event : Head → Seen = λ (h : Head). record { tick = h.tick; happening = happening } in
-    let after : Head → Recording = λ (h : Head). first (event h) (records ports h.tick (offset + size_of h) 0 (drop (size_of h) whole)) in
+    let after : Head → Schedule = λ (h : Head). in_front (event h) (records ports h.tick (offset + size_of h) 0 (drop (size_of h) whole)) in
     let rest : drop (size_of head) whole ≡ coming (record held { bytes = drop (size_of head) held.bytes }) left =
     ap (drop (size_of head)) (sym behind.1) ∙ coming_past held.bytes held.ended left (size_of head) enough in
     ap (records ports last offset 0) behind.1
     ∙ records_valid ports last offset (event (head_of whole)) whole (omega (arith, l.whole)) (record_at-valid ports last whole form happening l.whole l.form_is l.enough (ap (happening_in form) l.payload ∙ valid))
     ∙ ap after l.head_is
-    ∙ ap (λ bytes. first (event head) (records ports head.tick (offset + size_of head) 0 bytes)) rest
+    ∙ ap (λ bytes. in_front (event head) (records ports head.tick (offset + size_of head) 0 bytes)) rest
 
 partial_by : (ports last offset : ℕ) (bytes : List ℕ) → record_at ports last bytes ≡ Err Truncated → (records ports last offset 0 bytes).events ≡ []
 unfolding records
 partial_by ports last offset [] cut = refl
-partial_by ports last offset (byte ∷ bytes) cut = ap (λ (recording : Recording). recording.events) (records_faulty ports last offset Truncated (byte ∷ bytes) (omega arith) cut)
+partial_by ports last offset (byte ∷ bytes) cut = ap (λ (recording : Schedule). recording.events) (records_faulty ports last offset Truncated (byte ∷ bytes) (omega arith) cut)
 
 pub partial_short : (ports last offset : ℕ) (held : Held) → length held.bytes < 8 → IsPartial ports last offset held
 partial_short ports last offset held short = partial_by ports last offset held.bytes (record_at-short ports last held.bytes short)
@@ -120,7 +121,7 @@ partial_cut ports last offset held head form sound short =
 
 -- the same where the desk may not tell what it has left
 pub later_ends : (ports last offset : ℕ) (held : Held) (stop : Option Stop) (left : Option (List ℕ)) → Ends ports last offset held stop
-    → IfSome (later ports last offset held left) (λ recording. recording ≡ none_until stop)
+    → IfSome (later ports last offset held left) (λ recording. recording ≡ over stop)
 unfolding later still
 later_ends ports last offset held stop None ends = tt
 later_ends ports last offset held stop (Some left) ends = ends left
@@ -131,8 +132,8 @@ unfolding later
 later_still ports last offset held held_after left left_after same = ap (λ bytes. option_map (records ports last offset 0) bytes) (sym same)
 
 pub later_moves : (ports last offset ports_after tick place : ℕ) (held held_after : Held) (event : Seen) (left : Option (List ℕ))
-    → ((bytes : List ℕ) → records ports last offset 0 (coming held bytes) ≡ first event (records ports_after tick place 0 (coming held_after bytes)))
-    → later ports last offset held left ≡ option_map (first event) (later ports_after tick place held_after left)
+    → ((bytes : List ℕ) → records ports last offset 0 (coming held bytes) ≡ in_front event (records ports_after tick place 0 (coming held_after bytes)))
+    → later ports last offset held left ≡ option_map (in_front event) (later ports_after tick place held_after left)
 unfolding later still
 later_moves ports last offset ports_after tick place held held_after event None moves = refl
 later_moves ports last offset ports_after tick place held held_after event (Some left) moves = ap Some (moves left)
@@ -157,12 +158,12 @@ some_and None weaker is = is
 some_and (Some value) weaker is = weaker value is
 
 -- an event that was read ahead is the first of those that come
-pub ahead_read : (ahead : Option Event) (before after : Option Recording) → IsSomeAnd ahead (λ event. before ≡ option_map (first (seen event)) after)
+pub ahead_read : (ahead : Option Event) (before after : Option Schedule) → IsSomeAnd ahead (λ event. before ≡ option_map (in_front (seen event)) after)
     → before ≡ option_map (after_ahead (option_map seen ahead)) after
 ahead_read None before after is = absurd is
 ahead_read (Some event) before after is = is
 
-pub nothing_ahead : (ahead : Option Event) (recording : Option Recording) → ahead ≡ None → recording ≡ option_map (after_ahead (option_map seen ahead)) recording
+pub nothing_ahead : (ahead : Option Event) (recording : Option Schedule) → ahead ≡ None → recording ≡ option_map (after_ahead (option_map seen ahead)) recording
 nothing_ahead None None none = refl
 nothing_ahead None (Some recording) none = refl
 nothing_ahead (Some event) recording none = absurd (cc)
@@ -173,12 +174,12 @@ pub record_taken : (place : Option Event) (ports last offset : ℕ) (held held_a
     → IsSomeAnd place (λ event. (event.tick ≡ head.tick) × (happening_in form (slice_range held.bytes 8 (size_of head)) ≡ Ok (happening_of event.what)))
     → IfSome place (λ event. HappensWithin ports (happening_of event.what))
     → IsSomeAnd place (λ event. ((event.tick ≡ head.tick) × HappensWithin ports (seen event).happening)
-    × ((left : List ℕ) → records ports last offset 0 (coming held left) ≡ first (seen event) (records ports head.tick (offset + size_of head) 0 (coming held_after left))))
+    × ((left : List ℕ) → records ports last offset 0 (coming held left) ≡ in_front (seen event) (records ports head.tick (offset + size_of head) 0 (coming held_after left))))
 record_taken None ports last offset held held_after head form sound enough same valid within = absurd valid
 record_taken (Some event) ports last offset held held_after head form sound enough same valid within = (
   (valid.0, within),
   λ left.
       moves_on ports last offset held head form (happening_of event.what) sound enough valid.1 left
-      ∙ ap (λ (after : Held). first (record { tick = head.tick; happening = happening_of event.what }) (records ports head.tick (offset + size_of head) 0 (coming after left))) (sym same)
-      ∙ ap (λ tick. first (record { tick = tick; happening = happening_of event.what }) (records ports head.tick (offset + size_of head) 0 (coming held_after left))) (sym valid.0),
+      ∙ ap (λ (after : Held). in_front (record { tick = head.tick; happening = happening_of event.what }) (records ports head.tick (offset + size_of head) 0 (coming after left))) (sym same)
+      ∙ ap (λ tick. in_front (record { tick = tick; happening = happening_of event.what }) (records ports head.tick (offset + size_of head) 0 (coming held_after left))) (sym valid.0),
 )

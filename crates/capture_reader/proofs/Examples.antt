@@ -13,8 +13,8 @@ use Rattle.psd_base.specs.declared.stop.Stop.TheVariants.{Capture, Script, TooLo
 use Rattle.psd_base.specs.Event.{Seen, Happening, PortActs, PanelMoves, TimePasses}
 use Rattle.psd_base.specs.Reading.{number_in, number_after, with_digit}
 use Rattle.capture_reader.specs.Capture.{header, kind_of, form_of, has_fit_length, announced, act_of, happening_in, record_at, records}
-use Rattle.capture_reader.specs.Merge.{before, merge_lines, merge}
-use Rattle.capture_reader.specs.Schedule.{over, cut, schedule, port_count}
+use Rattle.capture_reader.specs.Merge.{before, merge_lines, merge, cut, schedule, port_count}
+use Rattle.capture_reader.specs.Schedule.{over}
 use Rattle.capture_reader.specs.Script.{buttons, checks, panel_text, first_line, move_among, panel_in, tick_in, said_in, judged, line_at, lines, script}
 
 -- a port that asks for the device descriptor: a SETUP, an IN and an OUT

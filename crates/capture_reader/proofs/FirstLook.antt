@@ -11,12 +11,12 @@ use Rattle.capture_reader.specs.declared.next.Next.TheVariants as nexts
 use Rattle.capture_reader.specs.declared.progress.State.TheVariants.{Waiting}
 use Rattle.capture_reader.specs.declared.script.ScriptSource.{ScriptSource}
 use Rattle.capture_reader.specs.declared.source.CaptureSource.{CaptureSource}
-use Rattle.capture_reader.specs.Capture.{Recording, first, none_until, header, records}
+use Rattle.capture_reader.specs.Capture.{header, records}
+use Rattle.capture_reader.specs.Schedule.{Schedule, in_front, over}
 use Rattle.capture_reader.specs.Lines.{later_lines, lines_with_ahead, LinesEnd, LineLookFailed}
-use Rattle.capture_reader.specs.Merge.{merge}
+use Rattle.capture_reader.specs.Merge.{merge, cut, cut_to, both, merged, schedule, schedule_told, port_count}
 use Rattle.capture_reader.specs.Progress.{reading, next_of}
 use Rattle.capture_reader.specs.Reader.{records_to_come, lines_to_come, upcoming, rest, IsLooked, IsOver, NewFailed}
-use Rattle.capture_reader.specs.Schedule.{Schedule, over, cut, cut_recording, both, merged, schedule, schedule_told, port_count}
 use Rattle.capture_reader.specs.Script.{lines, script}
 use Rattle.capture_reader.specs.Source.{later, after_ahead, Ends, LookFailed, OpenFailed}
 use Rattle.capture_reader.specs.Window.{Held, coming, still}
@@ -25,7 +25,7 @@ use Rattle.capture_reader.proofs.Merging.{record_step, line_step, end_step, capt
 use Rattle.capture_reader.proofs.Upcoming.{rest_is, shows_end}
 
 -- behind the first looks what is to come is what was to come before
-pub rest_first : (capture : CaptureSource) (source : ScriptSource) (limit : ℕ) (before : Option Recording) (capture_left script_left : Option (List ℕ)) → source.ports ≡ capture.ports
+pub rest_first : (capture : CaptureSource) (source : ScriptSource) (limit : ℕ) (before : Option Schedule) (capture_left script_left : Option (List ℕ)) → source.ports ≡ capture.ports
     → before ≡ option_map (after_ahead (option_map seen capture.ahead)) (later capture.ports capture.tick capture.offset capture.window capture_left)
     → rest (reading (record { capture = capture; script = source; limit = limit; served = 0; tick = 0; state = Waiting })) capture_left script_left
     ≡ merged limit before (lines_with_ahead source script_left)
@@ -40,7 +40,7 @@ rest_first capture source limit before capture_left script_left ports read =
 over_stops : (one other : Option Stop) → Some (over one) ≡ Some (over other) → one ≡ other
 over_stops one other same = ap (λ (schedule : Schedule). schedule.stop) (same_Some (over one) (over other) same)
 
-cut_no_fault : (limit : ℕ) (event : Seen) (recording : Recording) (stop : Stop) → stop ≢ stops.TooLong → cut_recording limit (first event recording) ≡ over (Some stop) → ⊥
+cut_no_fault : (limit : ℕ) (event : Seen) (recording : Schedule) (stop : Stop) → stop ≢ stops.TooLong → cut_to limit (in_front event recording) ≡ over (Some stop) → ⊥
 unfolding cut
 cut_no_fault zero event recording stop other same = other (same_Some stop stops.TooLong (sym (ap (λ (schedule : Schedule). schedule.stop) same)))
 cut_no_fault (suc limit) event recording stop other same =
@@ -55,14 +55,14 @@ unfolding rest upcoming records_to_come lines_to_come
 no_fault capture source limit None script_left records_end lines_end stop other same = cc
 no_fault capture source limit (Some capture_left) None records_end lines_end stop other same = cc
 no_fault capture source limit (Some capture_left) (Some script_left) records_end lines_end stop other same =
-    let told : Recording = records capture.ports capture.tick capture.offset 0 (coming capture.window capture_left) in
-    let said : Recording = lines capture.ports source.tick source.line 0 (coming source.window script_left) in
-    let over_at_once : cut_recording (limit - 0) (merge (after_ahead (option_map seen source.ahead) said) (after_ahead (option_map seen capture.ahead) told)) ≡ over (Some stop) =
+    let told : Schedule = records capture.ports capture.tick capture.offset 0 (coming capture.window capture_left) in
+    let said : Schedule = lines capture.ports source.tick source.line 0 (coming source.window script_left) in
+    let over_at_once : cut_to (limit - 0) (merge (after_ahead (option_map seen source.ahead) said) (after_ahead (option_map seen capture.ahead) told)) ≡ over (Some stop) =
     same_Some _ _ same in
     elim (next_of capture.ahead source.ahead) as (λ n. next_of capture.ahead source.ahead ≡ n → ⊥) [
-      | nexts.Record ↦ λ next. of_some (option_map seen capture.ahead) (λ event step. cut_no_fault (limit - 0) event _ stop other (sym (ap (cut_recording (limit - 0)) step) ∙ over_at_once))
+      | nexts.Record ↦ λ next. of_some (option_map seen capture.ahead) (λ event step. cut_no_fault (limit - 0) event _ stop other (sym (ap (cut_to (limit - 0)) step) ∙ over_at_once))
           (record_step capture.ahead source.ahead told said next (none_weaker source.ahead (λ all. all script_left) lines_end))
-      | nexts.Line ↦ λ next. of_some (option_map seen source.ahead) (λ event step. cut_no_fault (limit - 0) event _ stop other (sym (ap (cut_recording (limit - 0)) step) ∙ over_at_once))
+      | nexts.Line ↦ λ next. of_some (option_map seen source.ahead) (λ event step. cut_no_fault (limit - 0) event _ stop other (sym (ap (cut_to (limit - 0)) step) ∙ over_at_once))
           (line_step capture.ahead source.ahead told said next (none_weaker capture.ahead (λ all. all capture_left) records_end))
       | nexts.End ↦ λ next.
           let none = end_step capture.ahead source.ahead next in
@@ -79,24 +79,24 @@ looked_first capture source limit before capture_left script_left records_end li
 }
 
 later_lines_end : (ports last number : ℕ) (held : Held) (stop : Option Stop) (left : Option (List ℕ)) → LinesEnd ports last number held stop
-    → IfSome (later_lines ports last number held left) (λ recording. recording ≡ none_until stop)
+    → IfSome (later_lines ports last number held left) (λ recording. recording ≡ over stop)
 unfolding later_lines still
 later_lines_end ports last number held stop None ends = tt
 later_lines_end ports last number held stop (Some left) ends = ends left
 
-merged_over-capture : (limit : ℕ) (told said : Option Recording) (ahead : Option Seen) (stop : Stop) → IfSome told (λ recording. recording ≡ none_until (Some stop))
-    → IfNone ahead (IfSome said (λ recording. recording ≡ none_until None)) → IsOver (Some stop) (merged limit told (option_map (after_ahead ahead) said))
+merged_over-capture : (limit : ℕ) (told said : Option Schedule) (ahead : Option Seen) (stop : Stop) → IfSome told (λ recording. recording ≡ over (Some stop))
+    → IfNone ahead (IfSome said (λ recording. recording ≡ over None)) → IsOver (Some stop) (merged limit told (option_map (after_ahead ahead) said))
 merged_over-capture limit None said ahead stop ends none = tt
 merged_over-capture limit (Some told) None ahead stop ends none = tt
 merged_over-capture limit (Some told) (Some said) ahead stop ends none = cut_over limit _ (Some stop) (capture_over ahead told said stop ends none)
 
-merged_over-script : (limit : ℕ) (told said : Option Recording) (stop : Stop) → IfSome said (λ recording. recording ≡ none_until (Some stop)) → IsOver (Some stop) (merged limit told said)
+merged_over-script : (limit : ℕ) (told said : Option Schedule) (stop : Stop) → IfSome said (λ recording. recording ≡ over (Some stop)) → IsOver (Some stop) (merged limit told said)
 merged_over-script limit None said stop ends = tt
 merged_over-script limit (Some told) None stop ends = tt
 merged_over-script limit (Some told) (Some said) stop ends = cut_over limit _ (Some stop) (script_over told said stop ends)
 
 -- the first look at the capture failed
-pub capture_failed : (capture : CaptureSource) (source : ScriptSource) (limit : ℕ) (before : Option Recording) (left script_left : Option (List ℕ)) (desk desk_after : Told) (stop : Stop)
+pub capture_failed : (capture : CaptureSource) (source : ScriptSource) (limit : ℕ) (before : Option Schedule) (left script_left : Option (List ℕ)) (desk desk_after : Told) (stop : Stop)
     → later capture.ports capture.tick capture.offset capture.window left ≡ before → IfNone source.ahead (LinesEnd source.ports source.tick source.line source.window None)
     → LookFailed capture.ports capture.tick capture.offset capture.window desk desk_after stop
     → NewFailed (merged limit before (lines_with_ahead source script_left)) desk desk_after ⊥ stop
@@ -104,7 +104,7 @@ capture_failed capture source limit before left script_left desk desk_after stop
 capture_failed capture source limit before left script_left desk desk_after (stops.Rules why) same lines_end failed = failed
 capture_failed capture source limit before left script_left desk desk_after (stops.Capture offset why) same lines_end failed =
     merged_over-capture limit before (later_lines source.ports source.tick source.line source.window script_left) (option_map seen source.ahead) (stops.Capture offset why)
-    (subst (λ (recording : Option Recording). IfSome recording (λ r. r ≡ none_until (Some (stops.Capture offset why)))) same
+    (subst (λ (recording : Option Schedule). IfSome recording (λ r. r ≡ over (Some (stops.Capture offset why)))) same
     (later_ends capture.ports capture.tick capture.offset capture.window (Some (stops.Capture offset why)) left failed))
     (none_seen _ source.ahead (none_weaker source.ahead (later_lines_end source.ports source.tick source.line source.window None script_left) lines_end))
 capture_failed capture source limit before left script_left desk desk_after (stops.Script line why) same lines_end failed = absurd failed
@@ -116,7 +116,7 @@ capture_failed capture source limit before left script_left desk desk_after (sto
 capture_failed capture source limit before left script_left desk desk_after stops.OutOfMemory same lines_end failed = failed
 
 -- the first look at the script failed
-pub script_failed : (source : ScriptSource) (limit : ℕ) (told before : Option Recording) (left : Option (List ℕ)) (desk desk_after : Told) (stop : Stop)
+pub script_failed : (source : ScriptSource) (limit : ℕ) (told before : Option Schedule) (left : Option (List ℕ)) (desk desk_after : Told) (stop : Stop)
     → later_lines source.ports source.tick source.line source.window left ≡ before
     → LineLookFailed source.ports source.tick source.line source.window desk desk_after stop
     → NewFailed (merged limit told before) desk desk_after ⊥ stop
@@ -125,7 +125,7 @@ script_failed source limit told before left desk desk_after (stops.Rules why) sa
 script_failed source limit told before left desk desk_after (stops.Capture offset why) same failed = absurd failed
 script_failed source limit told before left desk desk_after (stops.Script line why) same failed =
     merged_over-script limit told before (stops.Script line why)
-    (subst (λ (recording : Option Recording). IfSome recording (λ r. r ≡ none_until (Some (stops.Script line why)))) same
+    (subst (λ (recording : Option Schedule). IfSome recording (λ r. r ≡ over (Some (stops.Script line why)))) same
     (later_lines_end source.ports source.tick source.line source.window (Some (stops.Script line why)) left failed))
 script_failed source limit told before left desk desk_after stops.TooLong same failed = failed
 script_failed source limit told before left desk desk_after (stops.ReadFault inputs.Rules) same failed = failed

@@ -5,10 +5,9 @@ use Rattle.psd_base.specs.declared.stop.Stop.{Stop}
 use Rattle.psd_base.specs.declared.stop.Stop.TheVariants.{TooLong}
 use Rattle.psd_base.specs.Event.{Seen, seen}
 use Rattle.capture_reader.specs.declared.next.Next.TheVariants as nexts
-use Rattle.capture_reader.specs.Capture.{Recording, first, none_until}
-use Rattle.capture_reader.specs.Merge.{before, merge_lines, merge}
+use Rattle.capture_reader.specs.Schedule.{Schedule, in_front, over}
+use Rattle.capture_reader.specs.Merge.{before, merge_lines, merge, cut, cut_to}
 use Rattle.capture_reader.specs.Progress.{next_of}
-use Rattle.capture_reader.specs.Schedule.{in_front, over, cut, cut_recording}
 use Rattle.capture_reader.specs.Source.{after_ahead}
 
 -- a choice between the sources is made by its test
@@ -25,28 +24,28 @@ never_end : (test : Bool) → cond test nexts.Line nexts.Record ≡ nexts.End �
 never_end true is = cc
 never_end false is = cc
 
-record_alone : (event : Seen) (lines records : Recording) → lines ≡ none_until None → merge lines (first event records) ≡ first event (merge lines records)
+record_alone : (event : Seen) (lines records : Schedule) → lines ≡ over None → merge lines (in_front event records) ≡ in_front event (merge lines records)
 unfolding merge merge_lines
 record_alone event lines records none = rw none refl
 
-record_before : (event line_event : Seen) (lines records : Recording) → nat_le line_event.tick event.tick ≡ false
-    → merge (first line_event lines) (first event records) ≡ first event (merge (first line_event lines) records)
+record_before : (event line_event : Seen) (lines records : Schedule) → nat_le line_event.tick event.tick ≡ false
+    → merge (in_front line_event lines) (in_front event records) ≡ in_front event (merge (in_front line_event lines) records)
 unfolding merge merge_lines before
 record_before event line_event lines records test = rw test refl
 
-line_alone : (event : Seen) (lines records : Recording) → records ≡ none_until None → merge (first event lines) records ≡ first event (merge lines records)
+line_alone : (event : Seen) (lines records : Schedule) → records ≡ over None → merge (in_front event lines) records ≡ in_front event (merge lines records)
 unfolding merge merge_lines before
 line_alone event lines records none = rw none refl
 
-line_before : (event record_event : Seen) (lines records : Recording) → nat_le event.tick record_event.tick ≡ true
-    → merge (first event lines) (first record_event records) ≡ first event (merge lines (first record_event records))
+line_before : (event record_event : Seen) (lines records : Schedule) → nat_le event.tick record_event.tick ≡ true
+    → merge (in_front event lines) (in_front record_event records) ≡ in_front event (merge lines (in_front record_event records))
 unfolding merge merge_lines before
 line_before event record_event lines records test = rw test refl
 
 -- a record is next
-pub record_step : (record_ahead line_ahead : Option Event) (records lines : Recording) → next_of record_ahead line_ahead ≡ nexts.Record → IfNone line_ahead (lines ≡ none_until None)
+pub record_step : (record_ahead line_ahead : Option Event) (records lines : Schedule) → next_of record_ahead line_ahead ≡ nexts.Record → IfNone line_ahead (lines ≡ over None)
     → IsSomeAnd (option_map seen record_ahead) (λ event. merge (after_ahead (option_map seen line_ahead) lines) (after_ahead (option_map seen record_ahead) records)
-    ≡ first event (merge (after_ahead (option_map seen line_ahead) lines) records))
+    ≡ in_front event (merge (after_ahead (option_map seen line_ahead) lines) records))
 record_step None None records lines is ends = cc
 record_step None (Some line_event) records lines is ends = cc
 record_step (Some event) None records lines is ends = record_alone (seen event) lines records ends
@@ -54,9 +53,9 @@ record_step (Some event) (Some line_event) records lines is ends =
     record_before (seen event) (seen line_event) lines records (chose_record (nat_le line_event.tick event.tick) is)
 
 -- a line is next
-pub line_step : (record_ahead line_ahead : Option Event) (records lines : Recording) → next_of record_ahead line_ahead ≡ nexts.Line → IfNone record_ahead (records ≡ none_until None)
+pub line_step : (record_ahead line_ahead : Option Event) (records lines : Schedule) → next_of record_ahead line_ahead ≡ nexts.Line → IfNone record_ahead (records ≡ over None)
     → IsSomeAnd (option_map seen line_ahead) (λ event. merge (after_ahead (option_map seen line_ahead) lines) (after_ahead (option_map seen record_ahead) records)
-    ≡ first event (merge lines (after_ahead (option_map seen record_ahead) records)))
+    ≡ in_front event (merge lines (after_ahead (option_map seen record_ahead) records)))
 line_step None None records lines is ends = cc
 line_step (Some record_event) None records lines is ends = cc
 line_step None (Some event) records lines is ends = line_alone (seen event) lines records ends
@@ -70,38 +69,38 @@ end_step (Some record_event) None is = cc
 end_step None (Some line_event) is = cc
 end_step (Some record_event) (Some line_event) is = absurd (never_end (nat_le line_event.tick record_event.tick) is)
 
-pub both_end : (records lines : Recording) → records ≡ none_until None → lines ≡ none_until None → merge lines records ≡ none_until None
+pub both_end : (records lines : Schedule) → records ≡ over None → lines ≡ over None → merge lines records ≡ over None
 unfolding merge merge_lines
 both_end records lines no_record no_line = rw (no_record, no_line) refl
 
 -- the capture shows its fault
-pub capture_over : (line_ahead : Option Seen) (records lines : Recording) (stop : Stop) → records ≡ none_until (Some stop) → IfNone line_ahead (lines ≡ none_until None)
-    → merge (after_ahead line_ahead lines) records ≡ none_until (Some stop)
+pub capture_over : (line_ahead : Option Seen) (records lines : Schedule) (stop : Stop) → records ≡ over (Some stop) → IfNone line_ahead (lines ≡ over None)
+    → merge (after_ahead line_ahead lines) records ≡ over (Some stop)
 unfolding merge merge_lines before
 capture_over None records lines stop ends none = rw (ends, none) refl
 capture_over (Some event) records lines stop ends none = rw ends refl
 
 -- the script shows its fault
-pub script_over : (records lines : Recording) (stop : Stop) → lines ≡ none_until (Some stop) → merge lines records ≡ none_until (Some stop)
+pub script_over : (records lines : Schedule) (stop : Stop) → lines ≡ over (Some stop) → merge lines records ≡ over (Some stop)
 unfolding merge merge_lines
 script_over records lines stop ends = rw ends refl
 
-pub cut_next : (limit served : ℕ) (event : Seen) (recording : Recording) → served < limit
-    → cut_recording (limit - served) (first event recording) ≡ in_front event (cut_recording (limit - (served + 1)) recording)
+pub cut_next : (limit served : ℕ) (event : Seen) (recording : Schedule) → served < limit
+    → cut_to (limit - served) (in_front event recording) ≡ in_front event (cut_to (limit - (served + 1)) recording)
 unfolding cut
 cut_next limit served event recording below =
     let more : limit - served ≡ suc (limit - (served + 1)) = omega arith in
-    ap (λ n. cut_recording n (first event recording)) more
+    ap (λ n. cut_to n (in_front event recording)) more
 
-pub cut_full : (limit served : ℕ) (event : Seen) (recording : Recording) → served ≡ limit → cut_recording (limit - served) (first event recording) ≡ over (Some TooLong)
+pub cut_full : (limit served : ℕ) (event : Seen) (recording : Schedule) → served ≡ limit → cut_to (limit - served) (in_front event recording) ≡ over (Some TooLong)
 unfolding cut
 cut_full limit served event recording full =
     let none : limit - served ≡ 0 = omega arith in
-    ap (λ n. cut_recording n (first event recording)) none
+    ap (λ n. cut_to n (in_front event recording)) none
 
-pub cut_over : (limit : ℕ) (recording : Recording) (stop : Option Stop) → recording ≡ none_until stop → cut_recording limit recording ≡ over stop
+pub cut_over : (limit : ℕ) (recording : Schedule) (stop : Option Stop) → recording ≡ over stop → cut_to limit recording ≡ over stop
 unfolding cut
-cut_over limit recording stop is = ap (cut_recording limit) is
+cut_over limit recording stop is = ap (cut_to limit) is
 
 -- weaker facts
 

@@ -8,7 +8,8 @@ use Rattle.psd_base.specs.declared.stop.Stop.TheVariants as stops
 use Rattle.psd_base.specs.Event.{Happening, Seen}
 use Rattle.capture_reader.specs.declared.form.Form.{Form}
 use Rattle.capture_reader.specs.declared.form.Head.{Head}
-use Rattle.capture_reader.specs.Capture.{first, none_until, head_of, size_of, payload_of, announced, happening_in, record_at, records}
+use Rattle.capture_reader.specs.Capture.{head_of, size_of, payload_of, announced, happening_in, record_at, records}
+use Rattle.capture_reader.specs.Schedule.{in_front, over}
 
 -- so many bytes are passed over
 pub records_skipped : (ports last offset skip : ℕ) (bytes : List ℕ) → records ports last offset skip bytes ≡ records ports last (offset + skip) 0 (drop skip bytes)
@@ -21,20 +22,20 @@ records_skipped ports last offset (suc skip) (byte ∷ bytes) =
 
 -- a record at the front, and the records after it
 pub records_valid : (ports last offset : ℕ) (event : Seen) (bytes : List ℕ) → 0 < length bytes → record_at ports last bytes ≡ Ok event
-    → records ports last offset 0 bytes ≡ first event (records ports event.tick (offset + size_of (head_of bytes)) 0 (drop (size_of (head_of bytes)) bytes))
+    → records ports last offset 0 bytes ≡ in_front event (records ports event.tick (offset + size_of (head_of bytes)) 0 (drop (size_of (head_of bytes)) bytes))
 unfolding records
 records_valid ports last offset event [] some valid = absurd (omega arith)
 records_valid ports last offset event (byte ∷ bytes) some valid =
     let size : ℕ = size_of (head_of (byte ∷ bytes)) in
     let place : offset + 1 + (size - 1) ≡ offset + size = omega arith in
     let positive : size ≡ suc (size - 1) = omega arith in
-    rw (valid, records) (ap (first event) (records_skipped ports event.tick (offset + 1) (size - 1) bytes
+    rw (valid, records) (ap (in_front event) (records_skipped ports event.tick (offset + 1) (size - 1) bytes
     ∙ ap (λ place. records ports event.tick place 0 (drop (size - 1) bytes)) place
     ∙ ap (λ count. records ports event.tick (offset + size) 0 (drop count (byte ∷ bytes))) (sym positive)))
 
 -- no record at the front
 pub records_faulty : (ports last offset : ℕ) (why : CaptureFault) (bytes : List ℕ) → 0 < length bytes → record_at ports last bytes ≡ Err why
-    → records ports last offset 0 bytes ≡ none_until (Some (stops.Capture offset why))
+    → records ports last offset 0 bytes ≡ over (Some (stops.Capture offset why))
 unfolding records
 records_faulty ports last offset why [] some faulty = absurd (omega arith)
 records_faulty ports last offset why (byte ∷ bytes) some faulty = rw (faulty, records) refl

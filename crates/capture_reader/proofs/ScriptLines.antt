@@ -6,7 +6,7 @@ use Rattle.psd_base.specs.declared.stop.ScriptFault.{ScriptFault}
 use Rattle.psd_base.specs.declared.stop.ScriptFault.TheVariants.{LineTooLong}
 use Rattle.psd_base.specs.declared.stop.Stop.TheVariants as stops
 use Rattle.psd_base.specs.Event.{Seen}
-use Rattle.capture_reader.specs.Capture.{first, none_until}
+use Rattle.capture_reader.specs.Schedule.{in_front, over}
 use Rattle.capture_reader.specs.Lines.{later_lines, LinesEnd}
 use Rattle.capture_reader.specs.Script.{first_line, line_at, lines}
 use Rattle.capture_reader.specs.Source.{after_ahead}
@@ -22,18 +22,18 @@ lines_skipped ports last number (suc skip) (byte ∷ bytes) = lines_skipped port
 
 -- a line at the front, and the lines after it
 lines_valid : (ports last number : ℕ) (event : Seen) (bytes : List ℕ) → 0 < length bytes → line_at ports last (first_line bytes) ≡ Ok event
-    → lines ports last number 0 bytes ≡ first event (lines ports event.tick (number + 1) 0 (drop (length (first_line bytes) + 1) bytes))
+    → lines ports last number 0 bytes ≡ in_front event (lines ports event.tick (number + 1) 0 (drop (length (first_line bytes) + 1) bytes))
 unfolding lines
 lines_valid ports last number event [] some valid = absurd (omega arith)
 lines_valid ports last number event (byte ∷ bytes) some valid =
     let size : ℕ = length (first_line (byte ∷ bytes)) in
     let more : size + 1 ≡ suc size = omega arith in
-    rw (valid, lines) (ap (first event) (lines_skipped ports event.tick (number + 1) size bytes
+    rw (valid, lines) (ap (in_front event) (lines_skipped ports event.tick (number + 1) size bytes
     ∙ ap (λ n. lines ports event.tick (number + 1) 0 (drop n (byte ∷ bytes))) (sym more)))
 
 -- no line at the front
 lines_faulty : (ports last number : ℕ) (why : ScriptFault) (bytes : List ℕ) → 0 < length bytes → line_at ports last (first_line bytes) ≡ Err why
-    → lines ports last number 0 bytes ≡ none_until (Some (stops.Script number why))
+    → lines ports last number 0 bytes ≡ over (Some (stops.Script number why))
 unfolding lines
 lines_faulty ports last number why [] some faulty = absurd (omega arith)
 lines_faulty ports last number why (byte ∷ bytes) some faulty = rw (faulty, lines) refl
@@ -97,15 +97,15 @@ past_line bytes false left size last =
 
 pub line_moves_on : (ports last number : ℕ) (held : Held) (size : ℕ) (event : Seen) → FrontLine held size → 0 < length held.bytes → length (take size held.bytes) ≤ 64
     → line_at ports last (take size held.bytes) ≡ Ok event → (left : List ℕ)
-    → lines ports last number 0 (coming held left) ≡ first event (lines ports event.tick (number + 1) 0 (coming (record held { bytes = drop (size + 1) held.bytes }) left))
+    → lines ports last number 0 (coming held left) ≡ in_front event (lines ports event.tick (number + 1) 0 (coming (record held { bytes = drop (size + 1) held.bytes }) left))
 line_moves_on ports last number held size event front some short valid left =
     let whole : List ℕ = coming held left in
     let fits : size ≤ 64 = omega (arith, length-take size held.bytes, front.within) in
     let front_size : length (take 65 (first_line whole)) ≡ size = ap length (front.line left) ∙ length-take size held.bytes ∙ omega (arith, front.within) in
     let line_size : length (first_line whole) ≡ size = omega (arith, length-take 65 (first_line whole)) in
     lines_valid ports last number event whole (coming_some held left some) (line_of_coming ports last held size (Ok event) front valid left)
-    ∙ ap (λ n. first event (lines ports event.tick (number + 1) 0 (drop (n + 1) whole))) line_size
-    ∙ ap (λ bytes. first event (lines ports event.tick (number + 1) 0 bytes)) (past_line held.bytes held.ended left size (front.last fits))
+    ∙ ap (λ n. in_front event (lines ports event.tick (number + 1) 0 (drop (n + 1) whole))) line_size
+    ∙ ap (λ bytes. in_front event (lines ports event.tick (number + 1) 0 bytes)) (past_line held.bytes held.ended left size (front.last fits))
 
 -- the same where the desk may not tell what it has left
 pub later_lines_still : (ports last number : ℕ) (held held_after : Held) (left left_after : Option (List ℕ)) → still held_after left_after ≡ still held left

@@ -15,11 +15,12 @@ use Rattle.capture_reader.specs.declared.progress.State.{State}
 use Rattle.capture_reader.specs.declared.progress.State.TheVariants.{Waiting, GivenRecord, GivenLine, Stopped}
 use Rattle.capture_reader.specs.declared.script.ScriptSource.{ScriptSource}
 use Rattle.capture_reader.specs.declared.source.CaptureSource.{CaptureSource}
-use Rattle.capture_reader.specs.Capture.{Recording, none_until, records}
+use Rattle.capture_reader.specs.Capture.{records}
+use Rattle.capture_reader.specs.Schedule.{Schedule, over}
 use Rattle.capture_reader.specs.Lines.{later_lines, LinesEnd, LineLookFailed}
 use Rattle.capture_reader.specs.Progress.{reading, next_of, IsSound, LinesFit, RecordsFit, given_in, record_waiting, line_waiting, stop_in}
 use Rattle.capture_reader.specs.Reader.{Reading, records_to_come, lines_to_come, upcoming, rest, GivesNext, IsAtEnd, IsOver, ShowsOver, StopsBecause}
-use Rattle.capture_reader.specs.Schedule.{Schedule, cut_recording, merged}
+use Rattle.capture_reader.specs.Merge.{cut_to, merged}
 use Rattle.capture_reader.specs.Script.{lines}
 use Rattle.capture_reader.specs.Source.{later, after_ahead, Ends, LookFailed}
 use Rattle.capture_reader.specs.Window.{coming, still}
@@ -36,7 +37,7 @@ rest_is reading None script_left = refl
 rest_is reading (Some capture_left) None = refl
 rest_is reading (Some capture_left) (Some script_left) = refl
 
-pub nothing_before : (recording : Option Recording) → option_map (after_ahead None) recording ≡ recording
+pub nothing_before : (recording : Option Schedule) → option_map (after_ahead None) recording ≡ recording
 nothing_before None = refl
 nothing_before (Some recording) = refl
 
@@ -46,7 +47,7 @@ pub rest_record : (now new : CaptureSource) (script : ScriptSource) (limit serve
     → rest (reading (record { capture = new; script = script; limit = limit; served = served; tick = tick; state = Waiting })) left_after script_left
     ≡ rest (reading (record { capture = now; script = script; limit = limit; served = served; tick = tick; state = GivenRecord })) left script_left
 rest_record now new script limit served tick left left_after script_left ports read =
-    let lines_after : ℕ → Option Recording = λ n. option_map (after_ahead (option_map seen script.ahead)) (later_lines n script.tick script.line script.window script_left) in
+    let lines_after : ℕ → Option Schedule = λ n. option_map (after_ahead (option_map seen script.ahead)) (later_lines n script.tick script.line script.window script_left) in
     rest_is (reading (record { capture = new; script = script; limit = limit; served = served; tick = tick; state = Waiting })) left_after script_left
     ∙ ap (λ records. merged (limit - served) records (lines_after new.ports)) (sym read ∙ sym (nothing_before (later now.ports now.tick now.offset now.window left)))
     ∙ ap (λ n. merged (limit - served) (option_map (after_ahead None) (later now.ports now.tick now.offset now.window left)) (lines_after n)) ports
@@ -57,7 +58,7 @@ pub rest_record-failed : (now new : CaptureSource) (script : ScriptSource) (limi
     → rest (reading (record { capture = new; script = script; limit = limit; served = served; tick = tick; state = Stopped stop })) left_after script_left
     ≡ rest (reading (record { capture = now; script = script; limit = limit; served = served; tick = tick; state = GivenRecord })) left script_left
 rest_record-failed now new script limit served tick stop left left_after script_left ports none same =
-    let lines_after : ℕ → Option Recording = λ n. option_map (after_ahead (option_map seen script.ahead)) (later_lines n script.tick script.line script.window script_left) in
+    let lines_after : ℕ → Option Schedule = λ n. option_map (after_ahead (option_map seen script.ahead)) (later_lines n script.tick script.line script.window script_left) in
     rest_is (reading (record { capture = new; script = script; limit = limit; served = served; tick = tick; state = Stopped stop })) left_after script_left
     ∙ ap (λ ahead. merged (limit - served) (option_map (after_ahead (option_map seen ahead)) (later new.ports new.tick new.offset new.window left_after)) (lines_after new.ports)) none
     ∙ ap (λ records. merged (limit - served) (option_map (after_ahead None) records) (lines_after new.ports)) same
@@ -70,7 +71,7 @@ pub rest_line : (now new : ScriptSource) (capture : CaptureSource) (limit served
     → rest (reading (record { capture = capture; script = new; limit = limit; served = served; tick = tick; state = Waiting })) capture_left left_after
     ≡ rest (reading (record { capture = capture; script = now; limit = limit; served = served; tick = tick; state = GivenLine })) capture_left left
 rest_line now new capture limit served tick capture_left left left_after ports ports_after read =
-    let records_after : Option Recording = option_map (after_ahead (option_map seen capture.ahead)) (later capture.ports capture.tick capture.offset capture.window capture_left) in
+    let records_after : Option Schedule = option_map (after_ahead (option_map seen capture.ahead)) (later capture.ports capture.tick capture.offset capture.window capture_left) in
     rest_is (reading (record { capture = capture; script = new; limit = limit; served = served; tick = tick; state = Waiting })) capture_left left_after
     ∙ ap (λ n. merged (limit - served) records_after (option_map (after_ahead (option_map seen new.ahead)) (later_lines n new.tick new.line new.window left_after))) (sym ports_after)
     ∙ ap (merged (limit - served) records_after) (sym read ∙ sym (nothing_before (later_lines now.ports now.tick now.line now.window left)))
@@ -82,7 +83,7 @@ pub rest_line-failed : (now new : ScriptSource) (capture : CaptureSource) (limit
     → rest (reading (record { capture = capture; script = new; limit = limit; served = served; tick = tick; state = Stopped stop })) capture_left left_after
     ≡ rest (reading (record { capture = capture; script = now; limit = limit; served = served; tick = tick; state = GivenLine })) capture_left left
 rest_line-failed now new capture limit served tick stop capture_left left left_after ports ports_after none same =
-    let records_after : Option Recording = option_map (after_ahead (option_map seen capture.ahead)) (later capture.ports capture.tick capture.offset capture.window capture_left) in
+    let records_after : Option Schedule = option_map (after_ahead (option_map seen capture.ahead)) (later capture.ports capture.tick capture.offset capture.window capture_left) in
     rest_is (reading (record { capture = capture; script = new; limit = limit; served = served; tick = tick; state = Stopped stop })) capture_left left_after
     ∙ ap (λ ahead. merged (limit - served) records_after (option_map (after_ahead (option_map seen ahead)) (later_lines capture.ports new.tick new.line new.window left_after))) none
     ∙ ap (λ n. merged (limit - served) records_after (option_map (after_ahead None) (later_lines n new.tick new.line new.window left_after))) (sym ports_after)
@@ -98,11 +99,11 @@ pub gives_record : (capture : CaptureSource) (script : ScriptSource) (limit serv
     (rest (reading (record { capture = capture; script = script; limit = limit; served = served + 1; tick = tick_after; state = GivenRecord })) capture_left script_left)
 unfolding rest upcoming records_to_come lines_to_come
 gives_record capture script limit served tick tick_after None script_left next below ends =
-    some_and (option_map seen capture.ahead) (λ event step. refl) (record_step capture.ahead script.ahead (none_until None) (none_until None) next (none_weaker script.ahead (λ all. refl) ends))
+    some_and (option_map seen capture.ahead) (λ event step. refl) (record_step capture.ahead script.ahead (over None) (over None) next (none_weaker script.ahead (λ all. refl) ends))
 gives_record capture script limit served tick tick_after (Some capture_left) None next below ends =
-    some_and (option_map seen capture.ahead) (λ event step. refl) (record_step capture.ahead script.ahead (none_until None) (none_until None) next (none_weaker script.ahead (λ all. refl) ends))
+    some_and (option_map seen capture.ahead) (λ event step. refl) (record_step capture.ahead script.ahead (over None) (over None) next (none_weaker script.ahead (λ all. refl) ends))
 gives_record capture script limit served tick tick_after (Some capture_left) (Some script_left) next below ends =
-    some_and (option_map seen capture.ahead) (λ event step. ap Some (ap (cut_recording (limit - served)) step ∙ cut_next limit served event _ below))
+    some_and (option_map seen capture.ahead) (λ event step. ap Some (ap (cut_to (limit - served)) step ∙ cut_next limit served event _ below))
     (record_step capture.ahead script.ahead (records capture.ports capture.tick capture.offset 0 (coming capture.window capture_left)) (lines capture.ports script.tick script.line 0 (coming script.window script_left))
     next (none_weaker script.ahead (λ all. all script_left) ends))
 
@@ -114,11 +115,11 @@ pub gives_line : (capture : CaptureSource) (script : ScriptSource) (limit served
     (rest (reading (record { capture = capture; script = script; limit = limit; served = served + 1; tick = tick_after; state = GivenLine })) capture_left script_left)
 unfolding rest upcoming records_to_come lines_to_come
 gives_line capture script limit served tick tick_after None script_left next below ends =
-    some_and (option_map seen script.ahead) (λ event step. refl) (line_step capture.ahead script.ahead (none_until None) (none_until None) next (none_weaker capture.ahead (λ all. refl) ends))
+    some_and (option_map seen script.ahead) (λ event step. refl) (line_step capture.ahead script.ahead (over None) (over None) next (none_weaker capture.ahead (λ all. refl) ends))
 gives_line capture script limit served tick tick_after (Some capture_left) None next below ends =
-    some_and (option_map seen script.ahead) (λ event step. refl) (line_step capture.ahead script.ahead (none_until None) (none_until None) next (none_weaker capture.ahead (λ all. refl) ends))
+    some_and (option_map seen script.ahead) (λ event step. refl) (line_step capture.ahead script.ahead (over None) (over None) next (none_weaker capture.ahead (λ all. refl) ends))
 gives_line capture script limit served tick tick_after (Some capture_left) (Some script_left) next below ends =
-    some_and (option_map seen script.ahead) (λ event step. ap Some (ap (cut_recording (limit - served)) step ∙ cut_next limit served event _ below))
+    some_and (option_map seen script.ahead) (λ event step. ap Some (ap (cut_to (limit - served)) step ∙ cut_next limit served event _ below))
     (line_step capture.ahead script.ahead (records capture.ports capture.tick capture.offset 0 (coming capture.window capture_left)) (lines capture.ports script.tick script.line 0 (coming script.window script_left))
     next (none_weaker capture.ahead (λ all. all capture_left) ends))
 
@@ -129,7 +130,7 @@ pub too_many-record : (capture : CaptureSource) (script : ScriptSource) (limit s
     → ShowsOver (Some TooLong) (reading (record { capture = capture; script = script; limit = limit; served = served; tick = tick; state = Stopped TooLong }))
 unfolding upcoming records_to_come lines_to_come
 too_many-record capture script limit served tick next full ends capture_left script_left =
-    of_some (option_map seen capture.ahead) (λ event step. ap (cut_recording (limit - served)) step ∙ cut_full limit served event _ full)
+    of_some (option_map seen capture.ahead) (λ event step. ap (cut_to (limit - served)) step ∙ cut_full limit served event _ full)
     (record_step capture.ahead script.ahead (records capture.ports capture.tick capture.offset 0 (coming capture.window capture_left)) (lines capture.ports script.tick script.line 0 (coming script.window script_left))
     next (none_weaker script.ahead (λ all. all script_left) ends))
 
@@ -138,7 +139,7 @@ pub too_many-line : (capture : CaptureSource) (script : ScriptSource) (limit ser
     → ShowsOver (Some TooLong) (reading (record { capture = capture; script = script; limit = limit; served = served; tick = tick; state = Stopped TooLong }))
 unfolding upcoming records_to_come lines_to_come
 too_many-line capture script limit served tick next full ends capture_left script_left =
-    of_some (option_map seen script.ahead) (λ event step. ap (cut_recording (limit - served)) step ∙ cut_full limit served event _ full)
+    of_some (option_map seen script.ahead) (λ event step. ap (cut_to (limit - served)) step ∙ cut_full limit served event _ full)
     (line_step capture.ahead script.ahead (records capture.ports capture.tick capture.offset 0 (coming capture.window capture_left)) (lines capture.ports script.tick script.line 0 (coming script.window script_left))
     next (none_weaker capture.ahead (λ all. all capture_left) ends))
 

@@ -17,6 +17,7 @@ use Rattle.capture_reader.specs.declared.form.Kind.TheVariants as kinds
 use Rattle.capture_reader.specs.declared.form.Form.{Form}
 use Rattle.capture_reader.specs.declared.form.Form.TheVariants as forms
 use Rattle.capture_reader.specs.declared.form.Head.{Head}
+use Rattle.capture_reader.specs.Schedule.{Schedule, in_front, over}
 
 -- what is read, or the first fault that is met on the way
 infixl 10 ◌>>=◌
@@ -119,24 +120,13 @@ record_at ports last bytes =
       happening ← if nat_lt (length bytes) (size_of (head_of bytes)) then Err Truncated else happening_in form (payload_of bytes)
       Ok (record { tick = (head_of bytes).tick; happening = happening })
 
--- what was recorded, oldest first, up to the end or to the first faulty place
-pub record Recording : Type 0 where
-  pub events : List Seen
-  pub stop : Option Stop
-
-abbrev pub first : Seen → Recording → Recording
-first event later = record { events = event ∷ later.events; stop = later.stop }
-
-abbrev pub none_until : Option Stop → Recording
-none_until stop = record { events = []; stop = stop }
-
 -- The records after one of tick `last`, where the first byte stands at this offset, and the next record begins so many bytes on.
 -- They end where no byte is left after a whole record.
-unfoldable pub records : ℕ → ℕ → ℕ → ℕ → List ℕ → Recording
-records ports last offset skip [] = none_until None
+unfoldable pub records : ℕ → ℕ → ℕ → ℕ → List ℕ → Schedule
+records ports last offset skip [] = over None
 records ports last offset zero (byte ∷ bytes) =
     elim (record_at ports last (byte ∷ bytes)) [
-      | Ok event ↦ first event (records ports event.tick (offset + 1) (size_of (head_of (byte ∷ bytes)) - 1) bytes)
-      | Err why ↦ none_until (Some (stops.Capture offset why))
+      | Ok event ↦ in_front event (records ports event.tick (offset + 1) (size_of (head_of (byte ∷ bytes)) - 1) bytes)
+      | Err why ↦ over (Some (stops.Capture offset why))
     ]
 records ports last offset (suc skip) (byte ∷ bytes) = records ports last (offset + 1) skip bytes

@@ -7,24 +7,24 @@ use Rattle.psd_base.specs.declared.stop.Stop.TheVariants as stops
 use Rattle.psd_base.specs.Desk.{ReadFailed, Told}
 use Rattle.psd_base.specs.Event.{HappensWithin, seen}
 use Rattle.capture_reader.specs.declared.script.ScriptSource.{ScriptSource}
-use Rattle.capture_reader.specs.Capture.{Recording, none_until}
+use Rattle.capture_reader.specs.Schedule.{Schedule, over}
 use Rattle.capture_reader.specs.Script.{lines}
 use Rattle.capture_reader.specs.Source.{after_ahead}
 use Rattle.capture_reader.specs.Window.{Held, HasNoLine, coming, still}
 
 -- what the lines say that are still to come, where the desk has these bytes left or doesn't tell
-unfoldable pub later_lines : ℕ → ℕ → ℕ → Held → Option (List ℕ) → Option Recording
+unfoldable pub later_lines : ℕ → ℕ → ℕ → Held → Option (List ℕ) → Option Schedule
 later_lines ports last number held left = option_map (lines ports last number 0) (still held left)
 
-abbrev pub later_lines_of : ScriptSource → Option (List ℕ) → Option Recording
+abbrev pub later_lines_of : ScriptSource → Option (List ℕ) → Option Schedule
 later_lines_of source left = later_lines source.ports source.tick source.line source.window left
 
-abbrev pub lines_later : ScriptSource → Told → Option Recording
+abbrev pub lines_later : ScriptSource → Told → Option Schedule
 lines_later source told = later_lines_of source (told.left inputs.Script)
 
 -- no line is still to come, whatever bytes the desk has left
 abbrev pub LinesEnd : ℕ → ℕ → ℕ → Held → Option Stop → Type 0
-LinesEnd ports last number held stop = (left : List ℕ) → lines ports last number 0 (coming held left) ≡ none_until stop
+LinesEnd ports last number held stop = (left : List ℕ) → lines ports last number 0 (coming held left) ≡ over stop
 
 abbrev pub LinesEndNow : ScriptSource → Option Stop → Type 0
 LinesEndNow source stop = LinesEnd source.ports source.tick source.line source.window stop
@@ -43,5 +43,5 @@ abbrev pub IsNextLine : ScriptSource → Event → Type 0
 IsNextLine source event = (event.tick ≡ source.tick) × HappensWithin source.ports (seen event).happening
 
 -- the line that was read ahead, and the lines that are still to come
-abbrev pub lines_with_ahead : ScriptSource → Option (List ℕ) → Option Recording
+abbrev pub lines_with_ahead : ScriptSource → Option (List ℕ) → Option Schedule
 lines_with_ahead source left = option_map (after_ahead (option_map seen source.ahead)) (later_lines_of source left)

@@ -8,9 +8,9 @@ use Rattle.psd_base.specs.declared.stop.Stop.{Stop}
 use Rattle.psd_base.specs.declared.stop.Stop.TheVariants as stops
 use Rattle.psd_base.specs.Desk.{ReadFailed, Told}
 use Rattle.psd_base.specs.Event.{HappensWithin, Seen}
-use Rattle.capture_reader.specs.Capture.{Recording, records}
-use Rattle.capture_reader.specs.Merge.{merge}
-use Rattle.capture_reader.specs.Schedule.{Schedule, in_front, over, both, cut_recording}
+use Rattle.capture_reader.specs.Capture.{records}
+use Rattle.capture_reader.specs.Schedule.{Schedule, in_front, over}
+use Rattle.capture_reader.specs.Merge.{merge, both, cut_to}
 use Rattle.capture_reader.specs.Script.{lines}
 use Rattle.capture_reader.specs.Source.{after_ahead}
 use Rattle.capture_reader.specs.Window.{Held, HasNoLine, coming}
@@ -43,16 +43,16 @@ pub record Reading : Type 0 where
 
 -- the records and the lines that are still to come, where the desk has these bytes left
 
-unfoldable pub records_to_come : ℕ → Following → List ℕ → Recording
+unfoldable pub records_to_come : ℕ → Following → List ℕ → Schedule
 records_to_come ports source left = after_ahead source.ahead (records ports source.tick source.place 0 (coming source.held left))
 
-unfoldable pub lines_to_come : ℕ → Following → List ℕ → Recording
+unfoldable pub lines_to_come : ℕ → Following → List ℕ → Schedule
 lines_to_come ports source left = after_ahead source.ahead (lines ports source.tick source.place 0 (coming source.held left))
 
 -- what is still to come, where the desk has these bytes of the capture and these of the script left
 unfoldable pub upcoming : Reading → List ℕ → List ℕ → Schedule
 upcoming reading capture_left script_left =
-    cut_recording (reading.limit - reading.served)
+    cut_to (reading.limit - reading.served)
     (merge (lines_to_come reading.ports reading.script script_left) (records_to_come reading.ports reading.capture capture_left))
 
 -- the same where the desk may not tell
@@ -103,7 +103,7 @@ StopsBecause new before told told_after (stops.Script line why) = ShowsOver (Som
 StopsBecause new before told told_after stops.TooLong = ShowsOver (Some stops.TooLong) new × IsOver (Some stops.TooLong) before × (new.served ≡ new.limit)
 StopsBecause new before told told_after stop = ⊥
 
--- a source isn't faulty before its first event
+-- a source isn't faulty before its in_front event
 pub record IsLooked (before : Option Schedule) : Type 0 where
   pub no_capture_fault : (offset : ℕ) (why : CaptureFault) → before ≢ Some (over (Some (stops.Capture offset why)))
   pub no_script_fault : (line : ℕ) (why : ScriptFault) → before ≢ Some (over (Some (stops.Script line why)))

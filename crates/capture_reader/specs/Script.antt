@@ -14,7 +14,7 @@ use Rattle.psd_base.specs.History.{or_else}
 use Rattle.psd_base.specs.Reading.{◌>>=◌, number_in}
 use Rattle.capture_reader.specs.declared.form.Said.{Said}
 use Rattle.capture_reader.specs.declared.line.TheConstants.{LINE_MAX}
-use Rattle.capture_reader.specs.Capture.{Recording, first, none_until}
+use Rattle.capture_reader.specs.Schedule.{Schedule, in_front, over}
 
 abbrev pub is_line_feed : ℕ → Bool
 is_line_feed byte = byte == 10
@@ -97,15 +97,15 @@ line_at ports last line =
     else elim (said_in line) [ Some said ↦ judged ports last said | None ↦ Err NotALine ]
 
 -- The lines after one of tick `last`, where the first has this number, and begins so many bytes on. They end where no byte is left.
-unfoldable pub lines : ℕ → ℕ → ℕ → ℕ → List ℕ → Recording
-lines ports last number skip [] = none_until None
+unfoldable pub lines : ℕ → ℕ → ℕ → ℕ → List ℕ → Schedule
+lines ports last number skip [] = over None
 lines ports last number zero (byte ∷ bytes) =
     elim (line_at ports last (first_line (byte ∷ bytes))) [
-      | Ok event ↦ first event (lines ports event.tick (number + 1) (length (first_line (byte ∷ bytes))) bytes)
-      | Err why ↦ none_until (Some (stops.Script number why))
+      | Ok event ↦ in_front event (lines ports event.tick (number + 1) (length (first_line (byte ∷ bytes))) bytes)
+      | Err why ↦ over (Some (stops.Script number why))
     ]
 lines ports last number (suc skip) (byte ∷ bytes) = lines ports last number skip bytes
 
 -- the whole script of a switch with so many ports
-unfoldable pub script : ℕ → List ℕ → Recording
+unfoldable pub script : ℕ → List ℕ → Schedule
 script ports bytes = lines ports 0 1 0 bytes

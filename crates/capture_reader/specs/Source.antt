@@ -14,27 +14,28 @@ use Rattle.capture_reader.specs.declared.form.Form.TheVariants as forms
 use Rattle.capture_reader.specs.declared.form.Head.{Head}
 use Rattle.capture_reader.specs.declared.form.Place.{Place}
 use Rattle.capture_reader.specs.declared.source.CaptureSource.{CaptureSource}
-use Rattle.capture_reader.specs.Capture.{Recording, first, none_until, header, head_of, has_fit_length, kind_in, announced, records}
+use Rattle.capture_reader.specs.Capture.{header, head_of, has_fit_length, kind_in, announced, records}
+use Rattle.capture_reader.specs.Schedule.{Schedule, in_front, over}
 use Rattle.capture_reader.specs.Window.{Held, coming, still}
 
 -- what the records say that are still to come, where the desk has these bytes left or doesn't tell
-unfoldable pub later : ℕ → ℕ → ℕ → Held → Option (List ℕ) → Option Recording
+unfoldable pub later : ℕ → ℕ → ℕ → Held → Option (List ℕ) → Option Schedule
 later ports last offset held left = option_map (records ports last offset 0) (still held left)
 
-abbrev pub later_of : CaptureSource → Option (List ℕ) → Option Recording
+abbrev pub later_of : CaptureSource → Option (List ℕ) → Option Schedule
 later_of source left = later source.ports source.tick source.offset source.window left
 
-abbrev pub records_later : CaptureSource → Told → Option Recording
+abbrev pub records_later : CaptureSource → Told → Option Schedule
 records_later source told = later_of source (told.left inputs.Capture)
 
 -- an event that was read ahead, and what comes after it
-abbrev pub after_ahead : Option Seen → Recording → Recording
+abbrev pub after_ahead : Option Seen → Schedule → Schedule
 after_ahead None recording = recording
-after_ahead (Some event) recording = first event recording
+after_ahead (Some event) recording = in_front event recording
 
 -- no event is still to come, whatever bytes the desk has left
 abbrev pub Ends : ℕ → ℕ → ℕ → Held → Option Stop → Type 0
-Ends ports last offset held stop = (left : List ℕ) → records ports last offset 0 (coming held left) ≡ none_until stop
+Ends ports last offset held stop = (left : List ℕ) → records ports last offset 0 (coming held left) ≡ over stop
 
 abbrev pub EndsNow : CaptureSource → Option Stop → Type 0
 EndsNow source stop = Ends source.ports source.tick source.offset source.window stop

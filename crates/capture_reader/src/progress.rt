@@ -47,7 +47,7 @@ impl Progress {
     ghost use Rattle.capture_reader.specs.Lines.{lines_later, lines_with_ahead, FailedLineLook};
     ghost use Rattle.capture_reader.specs.Progress.{reading, IsOpened, IsUnread, IsLookedAt, IsSound};
     ghost use Rattle.capture_reader.specs.Reader.{rest, rest_told, GivesNext, IsAtEnd, IsInOrder, IsLooked, IsOver, NewFailed, ShowsOver, StopsBecause};
-    ghost use Rattle.capture_reader.specs.Schedule.{schedule_told, merged, port_count};
+    ghost use Rattle.capture_reader.specs.Merge.{schedule_told, merged, port_count};
     ghost use Rattle.capture_reader.specs.Source.{records_later, FailedLook};
     ghost use Rattle.psd_base.specs.Desk.{OnlyReads, ReadsSources};
 

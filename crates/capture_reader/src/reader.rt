@@ -3,7 +3,7 @@ ghost use Rattle.std.specs.Prelude.{◌≡◌, ◌≢◌, ◌⊎◌, ◌+◌, �
 ghost use Rattle.std.specs.Prelude.{IsSome, IfOk, IfSome, IfErr, OnOk};
 ghost use Rattle.psd_base.specs.Event.{seen};
 ghost use Rattle.capture_reader.specs.Reader.{rest_told, GivesNext, IsAtEnd, IsOver, ShowsOver, StopsBecause, NewFailed, IsInOrder, IsLooked};
-ghost use Rattle.capture_reader.specs.Schedule.{schedule_told, port_count};
+ghost use Rattle.capture_reader.specs.Merge.{schedule_told, port_count};
 ghost use Rattle.psd_base.specs.Desk.{ReadsSources};
 
 use crate::progress::Progress;

@@ -20,7 +20,7 @@ impl ScriptSource {
     ghost use Rattle.std.specs.Prelude.{◌≡◌, ℕ, ◌+◌, ◌<◌, ◌≤◌, ◌^◌, List, [], length, take, true, false, Some, None, Ok, Err, option_map};
     ghost use Rattle.std.specs.Prelude.{IfOk, IfErr, IfSome, IfNone, IsSomeAnd, OnOk, OnErr};
     ghost use Rattle.psd_base.specs.Event.{seen};
-    ghost use Rattle.capture_reader.specs.Capture.{first};
+    ghost use Rattle.capture_reader.specs.Schedule.{in_front};
     ghost use Rattle.capture_reader.specs.Lines.{lines_later, LinesEndNow, FailedLineLook, IsNextLine, LineLookFailed};
     ghost use Rattle.capture_reader.specs.Script.{lines};
     ghost use Rattle.capture_reader.specs.Source.{after_ahead};

@@ -20,7 +20,8 @@ impl CaptureSource {
     ghost use Rattle.std.specs.Prelude.{◌≡◌, ℕ, ◌+◌, ◌<◌, ◌≤◌, ◌^◌, List, [], length, drop, true, false, Some, None, Ok, Err, option_map};
     ghost use Rattle.std.specs.Prelude.{IfOk, IfErr, IfSome, IfNone, IsSomeAnd, OnOk, OnErr};
     ghost use Rattle.psd_base.specs.Event.{seen};
-    ghost use Rattle.capture_reader.specs.Capture.{header, first, size_of, records};
+    ghost use Rattle.capture_reader.specs.Capture.{header, size_of, records};
+    ghost use Rattle.capture_reader.specs.Schedule.{in_front};
     ghost use Rattle.capture_reader.specs.Source.{later, records_later, after_ahead, AnnouncesNext, EndsNow, FailedLook, IsCaptureStop, IsNext, LookFailed, OpenFailed};
     ghost use Rattle.psd_base.specs.Desk.{OnlyReads, Told};
     ghost use Rattle.capture_reader.specs.Window.{coming, still};
@@ -122,7 +123,7 @@ impl CaptureSource {
         ensures offset { self.new.offset ≤ self.old.offset + WINDOW_SIZE }
         ensures ok { OnOk result (IsSomeAnd self.new.ahead (λ event. IsNext self.new event
             × (records_later self.old (D.told desk.old)
-            ≡ option_map (first (seen event)) (records_later self.new (D.told desk.new))))) }
+            ≡ option_map (in_front (seen event)) (records_later self.new (D.told desk.new))))) }
         ensures err { IfErr result (LookFailed self.old.ports self.old.tick self.old.offset self.new.window
             (D.told desk.old) (D.told desk.new)) }
         ensures same { OnErr result (self.new ≡ record self.old { window = self.new.window }) }
@@ -152,7 +153,7 @@ impl CaptureSource {
         ensures offset { self.new.offset ≤ self.old.offset + WINDOW_SIZE }
         ensures ok { OnOk result (IsSomeAnd self.new.ahead (λ event. IsNext self.new event
             × (records_later self.old (D.told desk.old)
-            ≡ option_map (first (seen event)) (records_later self.new (D.told desk.new))))) }
+            ≡ option_map (in_front (seen event)) (records_later self.new (D.told desk.new))))) }
         ensures err { IfErr result (LookFailed self.old.ports self.old.tick self.old.offset self.new.window
             (D.told desk.old) (D.told desk.new)) }
         ensures same { OnErr result (self.new ≡ record self.old { window = self.new.window }) }
@@ -203,7 +204,7 @@ impl CaptureSource {
         ensures offset { OnOk result (self.new.offset ≡ self.old.offset + size_of head.now) }
         ensures ahead { OnOk result (IsSomeAnd self.new.ahead (λ event. IsNext self.new event
             × ((left : List ℕ) → records self.old.ports self.old.tick self.old.offset 0 (coming self.old.window left)
-            ≡ first (seen event) (records self.new.ports self.new.tick self.new.offset 0 (coming self.new.window left))))) }
+            ≡ in_front (seen event) (records self.new.ports self.new.tick self.new.offset 0 (coming self.new.window left))))) }
         ensures err { (before after : Told) → IfErr result
             (LookFailed self.old.ports self.old.tick self.old.offset self.new.window before after) }
         ensures same { OnErr result (self.new ≡ self.old) }

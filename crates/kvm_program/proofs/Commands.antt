@@ -13,7 +13,8 @@ use Rattle.psd_base.specs.declared.summary.Summary.{Summary}
 use Rattle.psd_base.specs.Event.{Seen}
 use Rattle.admin_rules.specs.RuleFile.{Lists, rules_of}
 use Rattle.capture_reader.specs.Reader.{IsOver, NewFailed}
-use Rattle.capture_reader.specs.Schedule.{Schedule, over, schedule_told}
+use Rattle.capture_reader.specs.Merge.{schedule_told}
+use Rattle.capture_reader.specs.Schedule.{Schedule, over}
 use Rattle.kvm_program.specs.Check.{CheckEnds, Checks, CheckStops, OnlyChecks}
 use Rattle.kvm_program.specs.Outlets.{AndFaults, Grew}
 use Rattle.kvm_program.specs.Progress.{WroteAtStop}

@@ -1,5 +1,6 @@
 -- A replay that goes on, ends or stops.
 use Rattle.std.proofs.Common.{◌≡◌, ℕ, ◌+◌, ◌≤◌, inl, inr, List, [], ◌∷◌, ◌++◌, length, Option, Some, None, option_map, IfSome, refl, sym, ap, ◌∙◌, subst, arith}
+use Rattle.std.proofs.lemmas.Option.{same_Some}
 use Rattle.psd_base.specs.Desk.{IsAppendedPart, Rose, Told}
 use Rattle.psd_base.specs.declared.outlet.Input.{Input}
 use Rattle.psd_base.specs.Event.{Seen}
@@ -17,21 +18,29 @@ use Rattle.switch_core.specs.declared.switch.Switch.{Switch}
 use Rattle.kvm_program.specs.declared.tally.Tally.{Tally}
 use Rattle.kvm_program.specs.Outlets.{Grew}
 use Rattle.kvm_program.specs.Texts.{text_after, text_of, step_text}
-use Rattle.kvm_program.specs.Progress.{Counts, Progress, Finished, IsFresh, Whole, whole_of, WroteAtStop, ServingStops}
+use Rattle.kvm_program.specs.Progress.{Counts, Progress, Finished, IsFresh, behind, WroteAtStop, ServingStops}
 use Rattle.kvm_program.specs.Replay.{RunStops}
 use Rattle.kvm_program.proofs.Parts.{Grew-nothing, Grew-more, Grew-part, Grew-prefix}
 use Rattle.kvm_program.proofs.Texts.{text_after-step, text_after-onto}
 
 -- an event that comes is the newest of what was served
-whole_of-in_front : (past : List Seen) (event : Seen) (later : Option Schedule)
-    → option_map (whole_of past) (option_map (in_front event) later) ≡ option_map (whole_of (event ∷ past)) later
-whole_of-in_front past event None = refl
-whole_of-in_front past event (Some schedule) = refl
+behind-in_front : (past : List Seen) (event : Seen) (later : Option Schedule)
+    → option_map (behind past) (option_map (in_front event) later) ≡ option_map (behind (event ∷ past)) later
+behind-in_front past event None = refl
+behind-in_front past event (Some schedule) = refl
 
-whole_of-step : (coming now later : Option Schedule) (past : List Seen) (event : Seen)
-    → now ≡ option_map (in_front event) later → option_map (whole_of []) coming ≡ option_map (whole_of past) now
-    → option_map (whole_of []) coming ≡ option_map (whole_of (event ∷ past)) later
-whole_of-step coming now later past event next whole = whole ∙ (ap (option_map (whole_of past)) next ∙ whole_of-in_front past event later)
+behind-step : (coming now later : Option Schedule) (past : List Seen) (event : Seen)
+    → now ≡ option_map (in_front event) later → coming ≡ option_map (behind past) now → coming ≡ option_map (behind (event ∷ past)) later
+behind-step coming now later past event next whole = whole ∙ (ap (option_map (behind past)) next ∙ behind-in_front past event later)
+
+behind-nothing : (now : Option Schedule) → now ≡ option_map (behind []) now
+behind-nothing None = refl
+behind-nothing (Some schedule) = refl
+
+-- the events of a history and those behind them are all events
+behind_is : (past : List Seen) (later : Schedule) → (onto (behind past later).events [] ≡ onto later.events past) × ((behind past later).stop ≡ later.stop)
+behind_is [] later = (refl, refl)
+behind_is (event ∷ past) later = behind_is past (in_front event later)
 
 -- the next event was served
 pub Progress-more : (coming now later : Option Schedule) (start desk desk_after : Told) (switch switch_later : Switch) (tally tally_later : Tally) (event : Seen)
@@ -47,7 +56,7 @@ Progress-more coming now later start desk desk_after switch switch_later tally t
     record {
       past = event ∷ past;
       stands = stands;
-      whole = whole_of-step coming now later past event next so_far.whole;
+      whole = behind-step coming now later past event next so_far.whole;
       written = λ to. subst (λ (text : List ℕ). Grew (start.sent to) (desk_after.sent to) text) (sym (text_after-step to event past))
           (Grew-more (start.sent to) (desk.sent to) (desk_after.sent to) _ _ (so_far.written to) (wrote to));
       counted = counted;
@@ -55,15 +64,17 @@ Progress-more coming now later start desk desk_after switch switch_later tally t
     }
 
 -- what was served and what follows is all that was to come
+all_is : (schedule : Schedule) (now : Option Schedule) (past : List Seen) (later : Schedule)
+    → Some schedule ≡ option_map (behind past) now → now ≡ Some later → schedule ≡ behind past later
+all_is schedule now past later whole is = same_Some _ _ (whole ∙ ap (option_map (behind past)) is)
+
 history_is : (schedule : Schedule) (now : Option Schedule) (past : List Seen) (later : Schedule)
-    → option_map (whole_of []) (Some schedule) ≡ option_map (whole_of past) now → now ≡ Some later
-    → onto schedule.events [] ≡ onto later.events past
-history_is schedule now past later whole is = let same : whole_of [] schedule ≡ whole_of past later = cc in ap (λ (w : Whole). w.history) same
+    → Some schedule ≡ option_map (behind past) now → now ≡ Some later → onto schedule.events [] ≡ onto later.events past
+history_is schedule now past later whole is = ap (λ (s : Schedule). onto s.events []) (all_is schedule now past later whole is) ∙ (behind_is past later).0
 
 stop_is : (schedule : Schedule) (now : Option Schedule) (past : List Seen) (later : Schedule)
-    → option_map (whole_of []) (Some schedule) ≡ option_map (whole_of past) now → now ≡ Some later
-    → schedule.stop ≡ later.stop
-stop_is schedule now past later whole is = let same : whole_of [] schedule ≡ whole_of past later = cc in ap (λ (w : Whole). w.stop) same
+    → Some schedule ≡ option_map (behind past) now → now ≡ Some later → schedule.stop ≡ later.stop
+stop_is schedule now past later whole is = ap (λ (s : Schedule). s.stop) (all_is schedule now past later whole is) ∙ (behind_is past later).1
 
 -- nothing is left: each port has all of its transcript
 pub Progress-over : (schedule : Schedule) (now : Option Schedule) (start desk : Told) (switch : Switch) (tally : Tally) (stop : Option Stop)
@@ -71,7 +82,7 @@ pub Progress-over : (schedule : Schedule) (now : Option Schedule) (start desk : 
     → IfSome now (λ left. left ≡ over stop)
     → (schedule.stop ≡ stop) × (onto schedule.events [] ≡ so_far.past)
 Progress-over schedule now start desk switch tally stop so_far over_now = by_now now so_far.whole over_now where
-  by_now : (now : Option Schedule) → option_map (whole_of []) (Some schedule) ≡ option_map (whole_of so_far.past) now → IfSome now (λ left. left ≡ over stop)
+  by_now : (now : Option Schedule) → Some schedule ≡ option_map (behind so_far.past) now → IfSome now (λ left. left ≡ over stop)
       → (schedule.stop ≡ stop) × (onto schedule.events [] ≡ so_far.past)
   by_now None whole is = absurd (cc)
   by_now (Some left) whole is = (
@@ -84,7 +95,7 @@ pub Progress-part : (schedule : Schedule) (now : Option Schedule) (start desk : 
     → Progress (Some schedule) now start desk switch tally
     → IsAppendedPart (start.sent to) (desk.sent to) (text_of to schedule.events)
 Progress-part schedule now start desk switch tally to so_far = by_now now so_far.whole where
-  by_now : (now : Option Schedule) → option_map (whole_of []) (Some schedule) ≡ option_map (whole_of so_far.past) now
+  by_now : (now : Option Schedule) → Some schedule ≡ option_map (behind so_far.past) now
       → IsAppendedPart (start.sent to) (desk.sent to) (text_of to schedule.events)
   by_now None whole = absurd (cc)
   by_now (Some left) whole =
@@ -98,8 +109,8 @@ pub Progress-broken : (schedule : Schedule) (now later : Option Schedule) (start
     → now ≡ option_map (in_front event) later
     → IsAppendedPart (desk.sent to) (desk_after.sent to) (step_text to event so_far.past)
     → IsAppendedPart (start.sent to) (desk_after.sent to) (text_of to schedule.events)
-Progress-broken schedule now later start desk desk_after switch tally event to so_far next part = by_later later (whole_of-step (Some schedule) now later so_far.past event next so_far.whole) where
-  by_later : (later : Option Schedule) → option_map (whole_of []) (Some schedule) ≡ option_map (whole_of (event ∷ so_far.past)) later
+Progress-broken schedule now later start desk desk_after switch tally event to so_far next part = by_later later (behind-step (Some schedule) now later so_far.past event next so_far.whole) where
+  by_later : (later : Option Schedule) → Some schedule ≡ option_map (behind (event ∷ so_far.past)) later
       → IsAppendedPart (start.sent to) (desk_after.sent to) (text_of to schedule.events)
   by_later None whole = absurd (cc)
   by_later (Some left) whole =
@@ -224,7 +235,7 @@ pub Progress-start : (coming now : Option Schedule) (start desk : Told) (reader 
 Progress-start coming now start desk reader switch tally fresh same unsent = record {
   past = [];
   stands = fresh.stands;
-  whole = ap (option_map (whole_of [])) (sym same);
+  whole = sym same ∙ behind-nothing now;
   written = λ to. Grew-empty (start.sent to) (desk.sent to) to (unsent to);
   counted = fresh.empty;
   served = sym fresh.unserved;

@@ -4,7 +4,7 @@ use Rattle.std.proofs.lemmas.Option.{same_Some}
 use Rattle.psd_base.specs.Desk.{Told}
 use Rattle.psd_base.specs.declared.event.TheConstants.{EVENTS_MAX}
 use Rattle.psd_base.specs.declared.outlet.Input.TheVariants as input
-use Rattle.capture_reader.specs.Schedule.{both, schedule, schedule_told, port_count}
+use Rattle.capture_reader.specs.Merge.{both, schedule, schedule_told, port_count}
 use Rattle.kvm_program.specs.Run.{Run, run_of, run_told}
 
 both_told : (capture script : Option (List ℕ)) (run : Run) → both run_of capture script ≡ Some run → both (schedule EVENTS_MAX) capture script ≡ Some run.schedule

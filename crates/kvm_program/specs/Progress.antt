@@ -1,5 +1,5 @@
 -- How far a replay came, and what it leaves where it stops.
-use Rattle.std.specs.Prelude.{◌≡◌, ◌≢◌, ℕ, ◌*◌, ◌≤◌, List, [], length, Option, Some, None, option_map, IfSome}
+use Rattle.std.specs.Prelude.{◌≡◌, ◌≢◌, ℕ, ◌*◌, ◌≤◌, List, [], ◌∷◌, length, Option, Some, None, option_map, IfSome}
 use Rattle.psd_base.specs.Port.{IsPort}
 use Rattle.psd_base.specs.History.{onto}
 use Rattle.psd_base.specs.Desk.{IsAppendedPart, ReadFailed, Told, WriteFailed}
@@ -11,7 +11,7 @@ use Rattle.psd_base.specs.declared.outlet.Outlet.{Outlet}
 use Rattle.psd_base.specs.declared.outlet.Outlet.TheVariants as outlet
 use Rattle.psd_base.specs.declared.stop.Stop.{Stop}
 use Rattle.psd_base.specs.declared.stop.Stop.TheVariants.{Usage, Rules, Capture, Script, TooLong, ReadFault, WriteFault, OutOfMemory}
-use Rattle.capture_reader.specs.Schedule.{Schedule}
+use Rattle.capture_reader.specs.Schedule.{Schedule, in_front}
 use Rattle.capture_reader.specs.Reader.{Reading, rest_told}
 use Rattle.port_transcript.specs.declared.port.TheConstants.{PORT_LINE_SIZE}
 use Rattle.switch_core.specs.declared.switch.Switch.{Switch}
@@ -23,14 +23,10 @@ use Rattle.kvm_program.specs.Log.{is_leave, is_refusal, noted}
 use Rattle.kvm_program.specs.Texts.{text_after, text_of}
 use Rattle.kvm_program.specs.Transcript.{transcript_after}
 
--- all that happens in a run, newest first, and how it ends
-pub record Whole : Type 0 where
-  pub history : List Seen
-  pub stop : Option Stop
-
--- the whole of a run that served these events and has this schedule to come
-abbrev pub whole_of : List Seen → Schedule → Whole
-whole_of past coming = record { history = onto coming.events past; stop = coming.stop }
+-- what comes, behind the events of a history, which is newest first
+abbrev pub behind : List Seen → Schedule → Schedule
+behind [] coming = coming
+behind (event ∷ past) coming = behind past (in_front event coming)
 
 -- the counts are those of a history
 pub record Counts (tally : Tally) (past : List Seen) : Type 0 where
@@ -43,7 +39,7 @@ pub record Counts (tally : Tally) (past : List Seen) : Type 0 where
 pub record Progress (coming coming_now : Option Schedule) (start now : Told) (switch : Switch) (tally : Tally) : Type 0 where
   pub past : List Seen
   pub stands : StandsFor switch past
-  pub whole : option_map (whole_of []) coming ≡ option_map (whole_of past) coming_now
+  pub whole : coming ≡ option_map (behind past) coming_now
   pub written : (to : Outlet) → Grew (start.sent to) (now.sent to) (text_after to past)
   pub counted : Counts tally past
   pub served : length past ≡ switch.served

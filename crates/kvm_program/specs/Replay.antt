@@ -11,7 +11,8 @@ use Rattle.psd_base.specs.declared.stop.Stop.{Stop}
 use Rattle.psd_base.specs.declared.stop.Stop.TheVariants.{Usage, Rules, Capture, Script, TooLong, ReadFault, WriteFault, OutOfMemory}
 use Rattle.psd_base.specs.declared.summary.Summary.{Summary}
 use Rattle.admin_rules.specs.RuleFile.{Lists, rules_of}
-use Rattle.capture_reader.specs.Schedule.{Schedule, schedule_told}
+use Rattle.capture_reader.specs.Merge.{schedule_told}
+use Rattle.capture_reader.specs.Schedule.{Schedule}
 use Rattle.port_transcript.specs.StopLine.{stop_text}
 use Rattle.kvm_program.specs.Log.{log_of}
 use Rattle.kvm_program.specs.Outlets.{AndFaults, Grew}

@@ -3,7 +3,8 @@ use Rattle.std.specs.Prelude.{ℕ, List, Option}
 use Rattle.psd_base.specs.declared.event.TheConstants.{EVENTS_MAX}
 use Rattle.psd_base.specs.declared.outlet.Input.TheVariants as input
 use Rattle.psd_base.specs.Desk.{Told}
-use Rattle.capture_reader.specs.Schedule.{Schedule, both, schedule, port_count}
+use Rattle.capture_reader.specs.Merge.{both, schedule, port_count}
+use Rattle.capture_reader.specs.Schedule.{Schedule}
 
 -- the number of ports, and the events with how they end
 pub record Run : Type 0 where

@@ -3,15 +3,14 @@
 
 use port_transcript::stop_line;
 use psd_base::file_desk::FileDesk;
-use psd_base::outlet::Outlet;
 use psd_base::stop::Stop;
 use psd_base::summary::Summary;
 use psd_base::words::Words;
 use run::kvm;
 use std::io::ErrorKind;
 use std::process::ExitCode;
-use std::rt::Env;
-use std::{env, io};
+use std::rt::{Env, Files};
+use std::{env, fs, io};
 
 mod check;
 mod command;
@@ -28,11 +27,24 @@ mod tests;
 /// The exit status where an outlet can't be written out.
 const WRITE_FAULT: u8 = 7;
 
-/// The exit status where there is no memory for the words.
+/// The exit status where there is no memory for the words or for the buffers of the outlets.
 const OUT_OF_MEMORY: u8 = 8;
 
-/// The exit status where the system refuses the words.
-const NO_WORDS: u8 = 12;
+/// The exit status where the system refuses the words, or a file in the place of a standard stream.
+const REFUSED: u8 = 12;
+
+/// A file that is always there and holds nothing.
+const NOTHING: &str = "/dev/null";
+
+/// Opens a file for each standard stream. Where one was closed when the program began, the first of these takes its
+/// number, to be read alone: no file that is opened later gets the bytes of a standard stream.
+fn take_streams<R: Files>(rt: &R) -> io::Result<(R::File, R::File, R::File)> {
+    Ok((
+        fs::open(rt, NOTHING)?,
+        fs::open(rt, NOTHING)?,
+        fs::open(rt, NOTHING)?,
+    ))
+}
 
 /// The words behind the program's name.
 fn take_words(rt: &(impl Env + AllocGlobal)) -> io::Result<Words> {
@@ -48,7 +60,7 @@ fn refusal(error: &io::Error) -> u8 {
     if error.kind() == ErrorKind::OutOfMemory {
         OUT_OF_MEMORY
     } else {
-        NO_WORDS
+        REFUSED
     }
 }
 
@@ -60,26 +72,38 @@ fn status_of(ended: &Result<Summary, Stop>) -> u8 {
     }
 }
 
-/// Tells on standard error that an outlet couldn't be written out. Where that fails too, the status alone tells it.
-fn tell_write_fault(rt: &impl Eprint, outlet: Outlet) {
-    let line = stop_line(&Stop::WriteFault(outlet));
+/// Tells of a stop on standard error. Where that fails too, the status alone tells it.
+fn tell(rt: &impl Eprint, stop: &Stop) {
+    let line = stop_line(stop);
     if let Ok(text) = str::from_utf8(line.as_slice()) {
         let _ = rt.eprint(text);
     }
 }
 
-fn main(rt: HostRuntime) -> ExitCode {
-    let words = match take_words(&rt) {
-        Ok(words) => words,
-        Err(error) => return ExitCode::from(refusal(&error)),
-    };
-    let mut desk = FileDesk::new(&rt);
-    let status = status_of(&kvm(rt.alloc(), &words, &mut desk));
+/// Does what the words say at the desk of the current folder, whose buffers are taken before anything is read.
+fn obey(rt: &HostRuntime, words: &Words) -> u8 {
+    let mut desk = FileDesk::new(rt);
+    if desk.reserve().is_err() {
+        tell(rt, &Stop::OutOfMemory);
+        return OUT_OF_MEMORY;
+    }
+    let status = status_of(&kvm(rt.alloc(), words, &mut desk));
     match desk.close() {
-        Ok(()) => ExitCode::from(status),
+        Ok(()) => status,
         Err(outlet) => {
-            tell_write_fault(&rt, outlet);
-            ExitCode::from(WRITE_FAULT)
+            tell(rt, &Stop::WriteFault(outlet));
+            WRITE_FAULT
         }
+    }
+}
+
+fn main(rt: HostRuntime) -> ExitCode {
+    let _streams = match take_streams(&rt) {
+        Ok(streams) => streams,
+        Err(_) => return ExitCode::from(REFUSED),
+    };
+    match take_words(&rt) {
+        Ok(words) => ExitCode::from(obey(&rt, &words)),
+        Err(error) => ExitCode::from(refusal(&error)),
     }
 }

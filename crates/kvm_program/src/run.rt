@@ -3,7 +3,8 @@ ghost use Rattle.std.specs.Prelude.{◌≡◌, ◌≢◌, ℕ, ◌≤◌, Some, 
 ghost use Rattle.psd_base.specs.Desk.{NoInput, OnlyWrites, Touches, WriteFailed};
 ghost use Rattle.psd_base.specs.Port.{IsPort};
 ghost use Rattle.capture_reader.specs.Reader.{rest_told};
-ghost use Rattle.capture_reader.specs.Schedule.{Schedule, schedule_told};
+ghost use Rattle.capture_reader.specs.Merge.{schedule_told};
+ghost use Rattle.capture_reader.specs.Schedule.{Schedule};
 ghost use Rattle.kvm_program.specs.Check.{Checks};
 ghost use Rattle.kvm_program.specs.Command.{words_of};
 ghost use Rattle.kvm_program.specs.Outlets.{OnlyServes, WroteTo};

@@ -1,4 +1,5 @@
 pub mod Choices
 pub mod Fronts
+pub mod Independence
 pub mod Ports
 pub mod Views

@@ -1,5 +1,6 @@
 pub mod Chosen
 pub mod FrontStands
+pub mod Independence
 pub mod KmDescriptors
 pub mod Moments
 pub mod Notes

@@ -4,6 +4,7 @@
 pub mod front;
 pub mod health_change;
 pub mod km_descriptors;
+pub mod laws;
 pub mod port;
 pub mod slot;
 pub mod switch;

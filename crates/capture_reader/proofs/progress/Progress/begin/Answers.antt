@@ -5,7 +5,8 @@ use Rattle.psd_base.specs.declared.outlet.Input.TheVariants as inputs
 use Rattle.capture_reader.specs.declared.script.ScriptSource.{ScriptSource}
 use Rattle.capture_reader.specs.Lines.{later_lines, later_lines_of}
 use Rattle.capture_reader.specs.Reader.{IsLooked, NewFailed}
-use Rattle.capture_reader.specs.Schedule.{Schedule, merged, schedule_told}
+use Rattle.capture_reader.specs.Merge.{merged, schedule_told}
+use Rattle.capture_reader.specs.Schedule.{Schedule}
 use Rattle.capture_reader.specs.Script.{script}
 use Rattle.capture_reader.specs.Source.{later, later_of}
 use Rattle.capture_reader.specs.Window.{Held}

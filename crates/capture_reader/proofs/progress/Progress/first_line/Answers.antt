@@ -5,7 +5,8 @@ use Rattle.psd_base.specs.declared.outlet.Input.TheVariants as inputs
 use Rattle.capture_reader.specs.Lines.{lines_with_ahead, later_lines_of}
 use Rattle.capture_reader.specs.Progress.{reading}
 use Rattle.capture_reader.specs.Reader.{rest, NewFailed}
-use Rattle.capture_reader.specs.Schedule.{Schedule, merged}
+use Rattle.capture_reader.specs.Merge.{merged}
+use Rattle.capture_reader.specs.Schedule.{Schedule}
 use Rattle.capture_reader.specs.Source.{later_of}
 use Rattle.capture_reader.proofs.FirstLook.{script_failed, failed_since}
 use Rattle.capture_reader.proofs.progress.Progress.first_line.Goals as goal

@@ -3,7 +3,7 @@ use Rattle.std.proofs.Common.{◌≡◌, ℕ, ◌+◌, ◌<◌, ◌≤◌, Optio
 use Rattle.psd_base.specs.declared.event.Event.{Event}
 use Rattle.psd_base.specs.declared.stop.Stop.{Stop}
 use Rattle.psd_base.specs.Event.{seen}
-use Rattle.capture_reader.specs.Capture.{first}
+use Rattle.capture_reader.specs.Schedule.{in_front}
 use Rattle.capture_reader.specs.Lines.{LineLookFailed, LinesEnd}
 use Rattle.capture_reader.specs.Script.{line_at, lines}
 use Rattle.capture_reader.specs.Window.{Held, coming}
@@ -26,7 +26,7 @@ returns-in-Ok-clause-read c left =
     line_moves_on now.ports now.tick now.line now.window c.args.size (seen event) c.requires.front some
     (subst (λ (bytes : List ℕ). length (take c.args.size bytes) ≤ 64) c.bytes.ensures c.in-Ok.ensures.short)
     (ap (line_at now.ports now.tick) line ∙ c.in-Ok.ensures.ok) left
-    ∙ ap (λ (held : Held). first (seen event) (lines now.ports event.tick (now.line + 1) 0 (coming held left))) (sym c.drop_line.ensures)
+    ∙ ap (λ (held : Held). in_front (seen event) (lines now.ports event.tick (now.line + 1) 0 (coming held left))) (sym c.drop_line.ensures)
 
 pub returns-in-Err-clause-err : goal.returns-in-Err-clause-err
 returns-in-Err-clause-err c before after =
