@@ -2,6 +2,7 @@
 use Rattle.std.specs.Prelude.{ℕ, ◌+◌, ◌<◌, Bool, true, false, not, ◌&&◌, ◌||◌, ◌==◌, List, [], ◌∷◌, if◌then◌else◌}
 use Rattle.std.specs.List.{list_any}
 use Rattle.fail_secure.specs.declared.health.Health.{Health}
+use Rattle.fail_secure.specs.declared.health.TheConstants.{ALL_CHECKS}
 use Rattle.fail_secure.specs.declared.health.Health.TheVariants.{Testing, Alive, Dark}
 
 -- what is reported: that a check passed or failed, with whether no button is down then, and that the case was opened
@@ -32,22 +33,24 @@ have_all_passed past = has_passed 1 past && has_passed 2 past && has_passed 3 pa
 -- whether a button was down when the last of the four checks passed
 abbrev pub ended_with_button : List Report → Bool
 ended_with_button [] = false
-ended_with_button (report ∷ past) = if have_all_passed past then ended_with_button past else have_all_passed (report ∷ past) && has_button_down report
+ended_with_button (report ∷ past) =
+    if have_all_passed past then ended_with_button past else have_all_passed (report ∷ past) && has_button_down report
 
 -- Dark from the first failure on, whenever it comes, and from a self-test on that ended with a button down.
-abbrev pub is_dark : List Report → Bool
-is_dark past = list_any is_failure past || ended_with_button past
+abbrev pub has_failed : List Report → Bool
+has_failed past = list_any is_failure past || ended_with_button past
 
 -- the checks that passed, check n in bit n - 1
 abbrev pub passed_bits : List Report → ℕ
 passed_bits past =
-    (if has_passed 1 past then 1 else 0) + (if has_passed 2 past then 2 else 0) + (if has_passed 3 past then 4 else 0) + (if has_passed 4 past then 8 else 0)
+    (if has_passed 1 past then 1 else 0) + (if has_passed 2 past then 2 else 0)
+    + (if has_passed 3 past then 4 else 0) + (if has_passed 4 past then 8 else 0)
 
 unfoldable pub health_after : List Report → Health
-health_after past = if is_dark past then Dark else (if have_all_passed past then Alive else Testing (passed_bits past))
+health_after past = if has_failed past then Dark else (if have_all_passed past then Alive else Testing (passed_bits past))
 
 -- a self-test that goes on lacks a check
 abbrev pub IsUnfinished : Health → Type 0
-IsUnfinished (Testing passed) = passed < 15
+IsUnfinished (Testing passed) = passed < ALL_CHECKS
 IsUnfinished Alive = Unit {0}
 IsUnfinished Dark = Unit {0}

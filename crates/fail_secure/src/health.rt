@@ -4,8 +4,8 @@ ghost use Rattle.fail_secure.specs.Health.{Report, Checked, health_after, passed
 
 use psd_base::console::CHECKS;
 
-/// The bits of all checks.
-const ALL_CHECKS: u8 = (1 << CHECKS) - 1;
+/// The bits of all checks: what a self-test that goes on stays below.
+pub const ALL_CHECKS: u8 = (1 << CHECKS) - 1;
 
 /// What the self-test came to so far. A switch that is dark stays dark until the run ends.
 #[derive(Clone, Copy, Debug, PartialEq, Eq)]
@@ -63,7 +63,7 @@ impl Health {
 fn after_pass(passed: u8, check: u8, buttons_up: bool) -> Health
     requires some { 1 ≤ check }
     requires known { check ≤ CHECKS }
-    requires unfinished { passed < 15 }
+    requires unfinished { passed < ALL_CHECKS }
     ensures health { (past : List Report) → Health.Testing passed ≡ health_after past
         → result ≡ health_after (Checked check true buttons_up ∷ past) }
     ensures unfinished { IsUnfinished result }

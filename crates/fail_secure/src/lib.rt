@@ -2,8 +2,10 @@
 #![tactic(auto)]
 
 pub mod health;
+pub mod health_change;
 
 pub use health::Health;
+pub use health_change::{HealthChange, change_between};
 
 #[cfg(test)]
 mod tests;

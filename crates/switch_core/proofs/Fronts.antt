@@ -8,9 +8,11 @@ use Rattle.psd_base.specs.Event.{MovesWithin}
 use Rattle.fail_secure.specs.declared.health.Health.{Health}
 use Rattle.fail_secure.specs.declared.health.Health.TheVariants.{Testing, Alive, Dark}
 use Rattle.fail_secure.specs.Health.{IsUnfinished}
+use Rattle.fail_secure.specs.HealthChange.{is_alive}
+use Rattle.fail_secure.specs.declared.health.TheConstants.{ALL_CHECKS}
 use Rattle.selector.specs.Moments.{Moment, Moved, Ticked}
 use Rattle.selector.specs.Panel.{guard_told, button_told, is_guard_down, is_button_down, ports_down, are_buttons_up, numbers_from, is_empty}
-use Rattle.switch_core.specs.Chosen.{IsKnownCheck, checks_in, health_at, is_alive, selection_moments}
+use Rattle.switch_core.specs.Chosen.{IsKnownCheck, checks_in, health_at, selection_moments}
 
 -- what moves alone tell is told by the moments that count for the selection
 newest-selection : (told : Moment → Option Bool) → ((tick : ℕ) (all_up : Bool) → told (Ticked tick all_up) ≡ None) → (past : List Moment)
@@ -38,12 +40,12 @@ are_buttons_up-selection past =
     let down = filter-same (λ port. is_button_down port (selection_moments past)) (λ port. is_button_down port past) button (numbers_from 1 MAX_PORTS) in
     ap (λ (b : Bool). not b && is_empty (ports_down (selection_moments past))) guard ∙ ap (λ (ports : List ℕ). not (is_guard_down past) && is_empty ports) down
 
-pub unfinished : (health : Health) → checks_in health < 15 → IsUnfinished health
+pub unfinished : (health : Health) → checks_in health < ALL_CHECKS → IsUnfinished health
 unfinished (Testing passed) few = few
 unfinished Alive few = tt
 unfinished Dark few = tt
 
-pub few_checks : (health : Health) → IsUnfinished health → checks_in health < 15
+pub few_checks : (health : Health) → IsUnfinished health → checks_in health < ALL_CHECKS
 few_checks (Testing passed) few = few
 few_checks Alive few = lit< tt
 few_checks Dark few = lit< tt

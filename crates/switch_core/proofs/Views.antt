@@ -9,12 +9,13 @@ use Rattle.fail_secure.specs.declared.health.Health.{Health}
 use Rattle.fail_secure.specs.declared.health.Health.TheVariants.{Testing, Alive, Dark}
 use Rattle.fail_secure.specs.Health.{health_after}
 use Rattle.selector.specs.Moments.{Moved, Ticked}
-use Rattle.switch_core.specs.declared.health_change.HealthChange.{HealthChange}
-use Rattle.switch_core.specs.declared.health_change.HealthChange.TheVariants as change
+use Rattle.fail_secure.specs.declared.health_change.HealthChange.{HealthChange}
+use Rattle.fail_secure.specs.declared.health_change.HealthChange.TheVariants as change
 use Rattle.switch_core.specs.declared.slot.Slot.{Slot}
 use Rattle.switch_core.specs.declared.slot.Slot.TheVariants as slot
+use Rattle.fail_secure.specs.HealthChange.{is_alive, change_of}
 use Rattle.switch_core.specs.Moments.{moments_in}
-use Rattle.switch_core.specs.Chosen.{health_at, is_alive, change_of, selected_at, is_at}
+use Rattle.switch_core.specs.Chosen.{health_at, selected_at, is_at}
 use Rattle.switch_core.specs.View.{Item, Own, with_act, with_leave, with_select, with_selection, with_change, view}
 use Rattle.switch_core.specs.OnePort.{is_live, toy}
 use Rattle.switch_core.specs.SlotStands.{SlotStands}

@@ -1,16 +1,15 @@
 -- Health and selection after moments, which are newest first.
-use Rattle.std.specs.Prelude.{ℕ, ◌≤◌, Bool, true, false, not, ◌&&◌, ◌||◌, ◌==◌, List, [], ◌∷◌, Option, Some, None, if◌then◌else◌}
+use Rattle.std.specs.Prelude.{ℕ, Bool, false, ◌==◌, List, [], ◌∷◌, Option, Some, None, if◌then◌else◌}
 use Rattle.psd_base.specs.declared.console.Panel.{Panel}
 use Rattle.psd_base.specs.declared.console.Panel.TheVariants as panel
-use Rattle.psd_base.specs.declared.console.TheConstants.{CHECKS}
+use Rattle.psd_base.specs.Event.{MovesWithin}
 use Rattle.fail_secure.specs.declared.health.Health.{Health}
 use Rattle.fail_secure.specs.declared.health.Health.TheVariants.{Testing, Alive, Dark}
 use Rattle.fail_secure.specs.Health.{Report, Checked, Tampered, health_after}
+use Rattle.fail_secure.specs.HealthChange.{is_alive}
 use Rattle.selector.specs.Moments.{Moment, Moved, Ticked}
 use Rattle.selector.specs.Panel.{are_buttons_up}
 use Rattle.selector.specs.Choice.{choice_after, selected_in}
-use Rattle.switch_core.specs.declared.health_change.HealthChange.{HealthChange}
-use Rattle.switch_core.specs.declared.health_change.HealthChange.TheVariants as change
 
 -- a check is reported with whether no button is down
 abbrev pub with_report : Panel → Bool → List Report → List Report
@@ -19,11 +18,11 @@ with_report (panel.Button port down) buttons_up reports = reports
 with_report (panel.Check check passed) buttons_up reports = Checked check passed buttons_up ∷ reports
 with_report panel.Tamper buttons_up reports = Tampered ∷ reports
 
--- a check is one of those of the self-test
+-- a check is one of those of the self-test, whatever ports there are
 abbrev pub IsKnownCheck : Panel → Type 0
 IsKnownCheck (panel.Guard down) = Unit {0}
 IsKnownCheck (panel.Button port down) = Unit {0}
-IsKnownCheck (panel.Check check passed) = (1 ≤ check) × (check ≤ CHECKS)
+IsKnownCheck (panel.Check check passed) = MovesWithin 0 (panel.Check check passed)
 IsKnownCheck panel.Tamper = Unit {0}
 
 -- what is reported to the self-test
@@ -35,34 +34,18 @@ reports_in (Moved tick move ∷ past) = with_report move (are_buttons_up past) (
 abbrev pub health_at : List Moment → Health
 health_at past = health_after (reports_in past)
 
-abbrev pub is_alive : Health → Bool
-is_alive (Testing passed) = false
-is_alive Alive = true
-is_alive Dark = false
-
-abbrev pub is_dark : Health → Bool
-is_dark (Testing passed) = false
-is_dark Alive = false
-is_dark Dark = true
-
 -- the checks that a self-test kept, each in its bit; there is none but in the self-test
 abbrev pub checks_in : Health → ℕ
 checks_in (Testing passed) = passed
 checks_in Alive = 0
 checks_in Dark = 0
 
--- What becomes of the ports from one health to the next: they wake where it becomes alive, and go dark where it stops being so, or
--- goes dark from the self-test.
-abbrev pub change_of : Health → Health → HealthChange
-change_of before after =
-    if is_alive after then (if is_alive before then change.Stays else change.Wakes)
-    else (if is_alive before || (is_dark after && not (is_dark before)) then change.Darkens else change.Stays)
-
 -- the moments that count for the selection: clock events only while the switch is alive
 abbrev pub selection_moments : List Moment → List Moment
 selection_moments [] = []
 selection_moments (Moved tick move ∷ past) = Moved tick move ∷ selection_moments past
-selection_moments (Ticked tick all_up ∷ past) = if is_alive (health_at past) then Ticked tick all_up ∷ selection_moments past else selection_moments past
+selection_moments (Ticked tick all_up ∷ past) =
+    if is_alive (health_at past) then Ticked tick all_up ∷ selection_moments past else selection_moments past
 
 -- the port that is selected; outside Alive none is
 abbrev pub selected_at : List Moment → Option ℕ

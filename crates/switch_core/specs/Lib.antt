@@ -2,6 +2,7 @@ pub mod Chosen
 pub mod FrontStands
 pub mod Independence
 pub mod KmDescriptors
+pub mod Lines
 pub mod Moments
 pub mod Notes
 pub mod OnePort

@@ -10,10 +10,11 @@ use Rattle.psd_base.specs.Event.{Happening, TimePasses, PortActs, PanelMoves, Se
 use Rattle.selector.specs.declared.selector.Move.{Move}
 use Rattle.selector.specs.declared.selector.Move.TheVariants as moves
 use Rattle.selector.specs.Moments.{Moment, Moved, Ticked}
-use Rattle.switch_core.specs.declared.health_change.HealthChange.{HealthChange}
-use Rattle.switch_core.specs.declared.health_change.HealthChange.TheVariants as change
+use Rattle.fail_secure.specs.declared.health_change.HealthChange.{HealthChange}
+use Rattle.fail_secure.specs.declared.health_change.HealthChange.TheVariants as change
+use Rattle.fail_secure.specs.HealthChange.{change_of}
 use Rattle.switch_core.specs.Moments.{moments_in}
-use Rattle.switch_core.specs.Chosen.{health_at, change_of, selected_at}
+use Rattle.switch_core.specs.Chosen.{health_at, selected_at}
 
 -- why a move makes the switch dark: a check that failed, an opened case, or a button that was down when the last check passed
 abbrev pub reason_of : Panel → Reason

@@ -4,10 +4,11 @@ use Rattle.psd_base.specs.declared.act.Act.{Act}
 use Rattle.psd_base.specs.declared.act.Side.{Side}
 use Rattle.psd_base.specs.Event.{Happening, TimePasses, PortActs, PanelMoves, Seen}
 use Rattle.selector.specs.Moments.{Moment, Moved, Ticked}
-use Rattle.switch_core.specs.declared.health_change.HealthChange.{HealthChange}
-use Rattle.switch_core.specs.declared.health_change.HealthChange.TheVariants as change
+use Rattle.fail_secure.specs.declared.health_change.HealthChange.{HealthChange}
+use Rattle.fail_secure.specs.declared.health_change.HealthChange.TheVariants as change
+use Rattle.fail_secure.specs.HealthChange.{change_of}
 use Rattle.switch_core.specs.Moments.{moments_in}
-use Rattle.switch_core.specs.Chosen.{health_at, change_of, selected_at, is_at}
+use Rattle.switch_core.specs.Chosen.{health_at, selected_at, is_at}
 
 -- What concerns a port: an act of its computer; that the switch is alive, or dark; that the port is selected, or left.
 pub data Concern : Type 0 where

@@ -1,12 +1,14 @@
 //! The front of the switch: its self-test and its selection, which the panel and the clock alone move.
 ghost use Rattle.std.specs.Prelude.{◌≡◌, ◌<◌, List, [], ◌∷◌, true};
+ghost use Rattle.fail_secure.specs.HealthChange.{change_of};
+ghost use Rattle.fail_secure.specs.declared.health.TheConstants.{ALL_CHECKS};
 ghost use Rattle.selector.specs.Moments.{Moment, Moved, Ticked};
 ghost use Rattle.selector.specs.Choice.{Choice, move_of};
-ghost use Rattle.switch_core.specs.Chosen.{IsKnownCheck, change_of, checks_in, health_at, selected_at};
+ghost use Rattle.switch_core.specs.Chosen.{IsKnownCheck, checks_in, health_at, selected_at};
 ghost use Rattle.switch_core.specs.Notes.{change_notes, move_notes, selection_notes};
 
-use crate::health_change::{HealthChange, change_between, health_moved, reason_for};
-use fail_secure::Health;
+use crate::self_test::{health_moved, reason_for};
+use fail_secure::{Health, HealthChange, change_between};
 use psd_base::console::{Note, Notes, Panel};
 use psd_base::event::Tick;
 use selector::{Move, Selector};
@@ -16,7 +18,7 @@ use selector::{Move, Selector};
 pub struct Front {
     health: Health,
     selector: Selector,
-    ghost unfinished: { checks_in health < 15 },
+    ghost unfinished: { checks_in health < ALL_CHECKS },
 }
 
 impl Front {

@@ -2,10 +2,10 @@
 #![tactic(auto)]
 
 pub mod front;
-pub mod health_change;
 pub mod km_descriptors;
 pub mod laws;
 pub mod port;
+mod self_test;
 pub mod slot;
 pub mod switch;
 pub mod turn;

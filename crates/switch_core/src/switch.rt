@@ -7,14 +7,14 @@ ghost use Rattle.switch_core.specs.Notes.{notes_at};
 ghost use Rattle.switch_core.specs.View.{Item, Wakes, Darkens, view};
 ghost use Rattle.switch_core.specs.OnePort.{is_live, line_of};
 ghost use Rattle.switch_core.specs.SlotStands.{AllStand, SlotStands, views_of};
-ghost use Rattle.switch_core.specs.StandsFor.{line_at};
+ghost use Rattle.switch_core.specs.Lines.{line_at};
 ghost use Rattle.switch_core.specs.FrontStands.{FrontStands};
 
 use crate::front::Front;
-use crate::health_change::HealthChange;
 use crate::port::Port;
 use crate::slot::Slot;
 use crate::turn::Turn;
+use fail_secure::HealthChange;
 use psd_base::act::{Act, Answer, Side};
 use psd_base::console::{Notes, Panel};
 use psd_base::event::{EVENTS_MAX, Event, Tick, What};
@@ -31,7 +31,8 @@ pub struct Switch {
 }
 
 impl Switch {
-    ghost use Rattle.switch_core.specs.StandsFor.{StandsFor, port_total, line_at};
+    ghost use Rattle.switch_core.specs.StandsFor.{StandsFor, port_total};
+    ghost use Rattle.switch_core.specs.Lines.{line_at};
 
     /// A switch of 2 to `MAX_PORTS` ports in self-test, which served no event.
     pub fn new(alloc: Global, ports: u8) -> Result<Switch, AllocError>

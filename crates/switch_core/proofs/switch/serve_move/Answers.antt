@@ -1,6 +1,6 @@
 -- The ports wake, or go dark, where the health changes so.
 use Rattle.std.proofs.Common.{◌≡◌, ◌+◌, ℕ, false, ◌∙◌, subst}
-use Rattle.switch_core.specs.declared.health_change.HealthChange.{HealthChange}
+use Rattle.fail_secure.specs.declared.health_change.HealthChange.{HealthChange}
 use Rattle.switch_core.specs.Moments.{moments_in}
 use Rattle.switch_core.specs.View.{view, with_change}
 use Rattle.switch_core.specs.OnePort.{is_live}

@@ -2,7 +2,8 @@
 use Rattle.std.proofs.Common.{Bool, ap, ◌∙◌}
 use Rattle.fail_secure.specs.declared.health.Health.{Health}
 use Rattle.fail_secure.specs.Health.{health_after}
-use Rattle.switch_core.specs.Chosen.{change_of, reports_in, selection_moments, with_report}
+use Rattle.fail_secure.specs.HealthChange.{change_of}
+use Rattle.switch_core.specs.Chosen.{reports_in, selection_moments, with_report}
 use Rattle.switch_core.proofs.Fronts.{are_buttons_up-selection}
 use Rattle.switch_core.proofs.front.Front.moved.Goals as goal
 
