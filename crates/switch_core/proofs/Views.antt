@@ -1,5 +1,5 @@
 -- What events leave of a port's view.
-use Rattle.std.proofs.Common.{◌≡◌, ◌≢◌, ℕ, Bool, true, false, not, ◌&&◌, nat_eq, List, [], ◌∷◌, Option, refl, ◌∙◌, inl, inr}
+use Rattle.std.proofs.Common.{◌≡◌, ◌≢◌, ℕ, Bool, true, false, not, ◌&&◌, nat_eq, List, [], ◌∷◌, ◌++◌, Option, refl, sym, subst, ◌∙◌, inl, inr}
 use Rattle.std.proofs.lemmas.Bool.Decides.{eqb_tells}
 use Rattle.psd_base.specs.declared.act.Act.{Act}
 use Rattle.psd_base.specs.declared.act.Side.{Side}
@@ -11,54 +11,60 @@ use Rattle.fail_secure.specs.Health.{health_after}
 use Rattle.selector.specs.Moments.{Moved, Ticked}
 use Rattle.fail_secure.specs.declared.health_change.HealthChange.{HealthChange}
 use Rattle.fail_secure.specs.declared.health_change.HealthChange.TheVariants as change
+use Rattle.control_pipe.specs.Control.{ControlAct}
+use Rattle.control_pipe.specs.PipeStands.{PipeStands}
 use Rattle.switch_core.specs.declared.slot.Slot.{Slot}
 use Rattle.switch_core.specs.declared.slot.Slot.TheVariants as slot
 use Rattle.fail_secure.specs.HealthChange.{is_alive, change_of}
 use Rattle.switch_core.specs.Moments.{moments_in}
 use Rattle.switch_core.specs.Chosen.{health_at, selected_at, is_at}
-use Rattle.switch_core.specs.View.{Item, Own, with_act, with_leave, with_select, with_selection, with_change, view}
-use Rattle.switch_core.specs.OnePort.{is_live, toy}
+use Rattle.switch_core.specs.View.{Concern, Own, Selects, Leaves, Item, stamped, only_if, handed, change_concerns, view}
+use Rattle.switch_core.specs.OnePort.{is_live, control_acts, toy}
 use Rattle.switch_core.specs.SlotStands.{SlotStands}
 
+-- what two concerns keep, handing keeps
+pub by_handing : (P : List Item → Type 0) (port tick : ℕ) (before after : Option ℕ) (taken given : Concern)
+    → ((past : List Item) → P past → P (record { tick = tick; concern = taken } ∷ past))
+    → ((past : List Item) → P past → P (record { tick = tick; concern = given } ∷ past))
+    → (past : List Item) → P past → P (stamped tick (handed port before after taken given) past)
+by_handing P port tick before after taken given leave enter past holds =
+    by_both (is_at port before && not (is_at port after)) (is_at port after && not (is_at port before)) where
+      by_both : (leaves enters : Bool) → P (stamped tick (only_if leaves taken ++ only_if enters given) past)
+      by_both true true = enter (record { tick = tick; concern = taken } ∷ past) (leave past holds)
+      by_both true false = leave past holds
+      by_both false true = enter past holds
+      by_both false false = holds
+
 -- being selected or left changes no answer
-is_live-leave : (leaves : Bool) (tick : ℕ) (past : List Item) → is_live (with_leave leaves tick past) ≡ is_live past
-is_live-leave true tick past = refl
-is_live-leave false tick past = refl
-
-is_live-select : (selects : Bool) (tick : ℕ) (past : List Item) → is_live (with_select selects tick past) ≡ is_live past
-is_live-select true tick past = refl
-is_live-select false tick past = refl
-
-pub is_live-selection : (port tick : ℕ) (before after : Option ℕ) (past : List Item) → is_live (with_selection port tick before after past) ≡ is_live past
+pub is_live-selection : (port tick : ℕ) (before after : Option ℕ) (past : List Item)
+    → is_live (stamped tick (handed port before after Leaves Selects) past) ≡ is_live past
 is_live-selection port tick before after past =
-    is_live-select (is_at port after && not (is_at port before)) tick (with_leave (is_at port before && not (is_at port after)) tick past)
-    ∙ is_live-leave (is_at port before && not (is_at port after)) tick past
+    by_handing (λ v. is_live v ≡ is_live past) port tick before after Leaves Selects (λ v e. e) (λ v e. e) past refl
 
-SlotStands-leave : (port : Slot) (leaves : Bool) (tick : ℕ) (past : List Item) → SlotStands port past → SlotStands port (with_leave leaves tick past)
-SlotStands-leave (slot.Dark port) true tick past stands = stands
-SlotStands-leave (slot.Live port) true tick past stands = record { live = stands.live; pipe = stands.pipe }
-SlotStands-leave (slot.Dark port) false tick past stands = stands
-SlotStands-leave (slot.Live port) false tick past stands = stands
-
-SlotStands-select : (port : Slot) (selects : Bool) (tick : ℕ) (past : List Item) → SlotStands port past → SlotStands port (with_select selects tick past)
-SlotStands-select (slot.Dark port) true tick past stands = stands
-SlotStands-select (slot.Live port) true tick past stands = record { live = stands.live; pipe = stands.pipe }
-SlotStands-select (slot.Dark port) false tick past stands = stands
-SlotStands-select (slot.Live port) false tick past stands = stands
+-- a concern that leaves a port as it is
+kept_by : (port : Slot) (item : Item) (past : List Item) → is_live (item ∷ past) ≡ is_live past → control_acts (item ∷ past) ≡ control_acts past
+    → SlotStands port past → SlotStands port (item ∷ past)
+kept_by (slot.Dark port) item past live acts stands = live ∙ stands
+kept_by (slot.Live port) item past live acts stands = record {
+  live = live ∙ stands.live;
+  pipe = subst (λ (a : List ControlAct). PipeStands port.state.pipe a) (sym acts) stands.pipe;
+}
 
 pub SlotStands-selection : (port : Slot) (number tick : ℕ) (before after : Option ℕ) (past : List Item) → SlotStands port past
-    → SlotStands port (with_selection number tick before after past)
+    → SlotStands port (stamped tick (handed number before after Leaves Selects) past)
 SlotStands-selection port number tick before after past stands =
-    SlotStands-select port (is_at number after && not (is_at number before)) tick _ (SlotStands-leave port (is_at number before && not (is_at number after)) tick past stands)
+    by_handing (SlotStands port) number tick before after Leaves Selects (λ v s. kept_by port _ v refl refl s) (λ v s. kept_by port _ v refl refl s) past stands
 
 -- the ports are live where the health is alive
-is_live-act : (port tick other : ℕ) (side : Side) (act : Act) (past : List Item) → is_live (with_act port tick other side act past) ≡ is_live past
-is_live-act port tick other side act past = by_same (nat_eq other port) refl where
-  by_same : (same : Bool) → nat_eq other port ≡ same → is_live (with_act port tick other side act past) ≡ is_live past
-  by_same true is = rw is refl
-  by_same false is = rw is refl
+is_live-act : (port tick other : ℕ) (side : Side) (act : Act) (past : List Item)
+    → is_live (stamped tick (only_if (nat_eq other port) (Own side act)) past) ≡ is_live past
+is_live-act port tick other side act past = by_same (nat_eq other port) where
+  by_same : (same : Bool) → is_live (stamped tick (only_if same (Own side act)) past) ≡ is_live past
+  by_same true = refl
+  by_same false = refl
 
-is_live-change : (tick : ℕ) (before after : Health) (past : List Item) → is_live past ≡ is_alive before → is_live (with_change tick (change_of before after) past) ≡ is_alive after
+is_live-change : (tick : ℕ) (before after : Health) (past : List Item) → is_live past ≡ is_alive before
+    → is_live (stamped tick (change_concerns (change_of before after)) past) ≡ is_alive after
 is_live-change tick (Testing passed) (Testing more) past is = is
 is_live-change tick (Testing passed) Alive past is = refl
 is_live-change tick (Testing passed) Dark past is = refl
@@ -98,27 +104,20 @@ wakes_from Alive (Testing more) is = absurd (cc)
 wakes_from Alive Alive is = absurd (cc)
 wakes_from Alive Dark is = absurd (cc)
 
--- being selected or left adds no line, nor does a change of health
-toy-leave : (leaves : Bool) (tick : ℕ) (past : List Item) → toy (with_leave leaves tick past) ≡ toy past
-toy-leave true tick past = refl
-toy-leave false tick past = refl
-
-toy-select : (selects : Bool) (tick : ℕ) (past : List Item) → toy (with_select selects tick past) ≡ toy past
-toy-select true tick past = refl
-toy-select false tick past = refl
-
-toy-change : (tick : ℕ) (to : HealthChange) (past : List Item) → toy (with_change tick to past) ≡ toy past
+-- a change of health adds no line
+toy-change : (tick : ℕ) (to : HealthChange) (past : List Item) → toy (stamped tick (change_concerns to) past) ≡ toy past
 toy-change tick change.Stays past = refl
 toy-change tick change.Wakes past = refl
 toy-change tick change.Darkens past = refl
 
 -- a clock event adds no line to any port, nor does a move at the panel
-pub toy-clock : (port tick : ℕ) (past : List Seen) → toy (view port (record { tick = tick; happening = TimePasses } ∷ past)) ≡ toy (view port past)
+pub toy-clock : (port tick : ℕ) (past : List Seen)
+    → toy (view port (record { tick = tick; happening = TimePasses } ∷ past)) ≡ toy (view port past)
 toy-clock port tick past =
-    let before = selected_at (moments_in past) in
-    let after = selected_at (Ticked tick true ∷ moments_in past) in
-    toy-select (is_at port after && not (is_at port before)) tick (with_leave (is_at port before && not (is_at port after)) tick (view port past))
-    ∙ toy-leave (is_at port before && not (is_at port after)) tick (view port past)
+    by_handing (λ v. toy v ≡ toy (view port past)) port tick
+    (selected_at (moments_in past)) (selected_at (Ticked tick true ∷ moments_in past)) Leaves Selects (λ v e. e) (λ v e. e) (view port past) refl
 
-pub toy-move : (port tick : ℕ) (move : Panel) (past : List Seen) → toy (view port (record { tick = tick; happening = PanelMoves move } ∷ past)) ≡ toy (view port past)
-toy-move port tick move past = toy-change tick (change_of (health_at (moments_in past)) (health_at (Moved tick move ∷ moments_in past))) (view port past)
+pub toy-move : (port tick : ℕ) (move : Panel) (past : List Seen)
+    → toy (view port (record { tick = tick; happening = PanelMoves move } ∷ past)) ≡ toy (view port past)
+toy-move port tick move past =
+    toy-change tick (change_of (health_at (moments_in past)) (health_at (Moved tick move ∷ moments_in past))) (view port past)

@@ -9,18 +9,16 @@ use Rattle.psd_base.specs.declared.act.Answer.TheVariants as answer
 use Rattle.psd_base.specs.declared.line.Line.{Line}
 use Rattle.control_pipe.specs.Control.{ControlAct, is_control_act, moment_of, control_answer, address_after, is_configured_after, is_halted_after}
 use Rattle.switch_core.specs.KmDescriptors.{km_descriptor}
-use Rattle.switch_core.specs.View.{Concern, Own, Wakes, Darkens, Selects, Leaves, Item}
+use Rattle.switch_core.specs.View.{Concern, Own, Wakes, Darkens, Item}
 
 -- whether the port answers: the switch is alive
 abbrev pub is_live : List Item → Bool
 is_live [] = false
 is_live (item ∷ past) = with_concern item.concern (is_live past) where
   with_concern : Concern → Bool → Bool
-  with_concern (Own side act) live = live
   with_concern Wakes live = true
   with_concern Darkens live = false
-  with_concern Selects live = live
-  with_concern Leaves live = live
+  with_concern _ live = live
 
 -- an act at the control endpoint of the keyboard and mouse, with the descriptor for its setup
 abbrev pub km_act : Act → ControlAct
@@ -36,11 +34,8 @@ control_acts [] = []
 control_acts (item ∷ past) = with_concern item.concern (control_acts past) where
   with_concern : Concern → List ControlAct → List ControlAct
   with_concern (Own Km act) acts = with_km_act act acts
-  with_concern (Own Ua act) acts = acts
   with_concern Wakes acts = []
-  with_concern Darkens acts = acts
-  with_concern Selects acts = acts
-  with_concern Leaves acts = acts
+  with_concern _ acts = acts
 
 -- whether the emulated keyboard and mouse have this endpoint: 1 and 2 of a configured device
 abbrev pub has_interrupt_endpoint : ℕ → List ControlAct → Bool
@@ -75,7 +70,4 @@ toy [] = []
 toy (item ∷ past) = with_concern item.tick item.concern past (toy past) where
   with_concern : ℕ → Concern → List Item → List Line → List Line
   with_concern tick (Own side act) past lines = lines ++ line_of past tick side act ∷ []
-  with_concern tick Wakes past lines = lines
-  with_concern tick Darkens past lines = lines
-  with_concern tick Selects past lines = lines
-  with_concern tick Leaves past lines = lines
+  with_concern tick _ past lines = lines
