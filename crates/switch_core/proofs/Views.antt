@@ -11,7 +11,6 @@ use Rattle.fail_secure.specs.Health.{health_after}
 use Rattle.selector.specs.Moments.{Moved, Ticked}
 use Rattle.fail_secure.specs.declared.health_change.HealthChange.{HealthChange}
 use Rattle.fail_secure.specs.declared.health_change.HealthChange.TheVariants as change
-use Rattle.control_pipe.specs.Control.{ControlAct}
 use Rattle.control_pipe.specs.PipeStands.{PipeStands}
 use Rattle.switch_core.specs.declared.slot.Slot.{Slot}
 use Rattle.switch_core.specs.declared.slot.Slot.TheVariants as slot
@@ -19,7 +18,7 @@ use Rattle.fail_secure.specs.HealthChange.{is_alive, change_of}
 use Rattle.switch_core.specs.Moments.{moments_in}
 use Rattle.switch_core.specs.Chosen.{health_at, selected_at, is_at}
 use Rattle.switch_core.specs.View.{Concern, Own, Selects, Leaves, Item, stamped, only_if, handed, change_concerns, view}
-use Rattle.switch_core.specs.OnePort.{is_live, control_acts, toy}
+use Rattle.switch_core.specs.OnePort.{Parts, is_live, parts_of, one_port_lines}
 use Rattle.switch_core.specs.SlotStands.{SlotStands}
 
 -- what two concerns keep, handing keeps
@@ -42,12 +41,12 @@ is_live-selection port tick before after past =
     by_handing (λ v. is_live v ≡ is_live past) port tick before after Leaves Selects (λ v e. e) (λ v e. e) past refl
 
 -- a concern that leaves a port as it is
-kept_by : (port : Slot) (item : Item) (past : List Item) → is_live (item ∷ past) ≡ is_live past → control_acts (item ∷ past) ≡ control_acts past
+kept_by : (port : Slot) (item : Item) (past : List Item) → is_live (item ∷ past) ≡ is_live past → parts_of (item ∷ past) ≡ parts_of past
     → SlotStands port past → SlotStands port (item ∷ past)
-kept_by (slot.Dark port) item past live acts stands = live ∙ stands
-kept_by (slot.Live port) item past live acts stands = record {
+kept_by (slot.Dark port) item past live parts stands = live ∙ stands
+kept_by (slot.Live port) item past live parts stands = record {
   live = live ∙ stands.live;
-  pipe = subst (λ (a : List ControlAct). PipeStands port.state.pipe a) (sym acts) stands.pipe;
+  pipe = subst (λ (p : Parts). PipeStands port.state.pipe p.control) (sym parts) stands.pipe;
 }
 
 pub SlotStands-selection : (port : Slot) (number tick : ℕ) (before after : Option ℕ) (past : List Item) → SlotStands port past
@@ -105,19 +104,19 @@ wakes_from Alive Alive is = absurd (cc)
 wakes_from Alive Dark is = absurd (cc)
 
 -- a change of health adds no line
-toy-change : (tick : ℕ) (to : HealthChange) (past : List Item) → toy (stamped tick (change_concerns to) past) ≡ toy past
-toy-change tick change.Stays past = refl
-toy-change tick change.Wakes past = refl
-toy-change tick change.Darkens past = refl
+one_port_lines-change : (tick : ℕ) (to : HealthChange) (past : List Item) → one_port_lines (stamped tick (change_concerns to) past) ≡ one_port_lines past
+one_port_lines-change tick change.Stays past = refl
+one_port_lines-change tick change.Wakes past = refl
+one_port_lines-change tick change.Darkens past = refl
 
 -- a clock event adds no line to any port, nor does a move at the panel
-pub toy-clock : (port tick : ℕ) (past : List Seen)
-    → toy (view port (record { tick = tick; happening = TimePasses } ∷ past)) ≡ toy (view port past)
-toy-clock port tick past =
-    by_handing (λ v. toy v ≡ toy (view port past)) port tick
+pub one_port_lines-clock : (port tick : ℕ) (past : List Seen)
+    → one_port_lines (view port (record { tick = tick; happening = TimePasses } ∷ past)) ≡ one_port_lines (view port past)
+one_port_lines-clock port tick past =
+    by_handing (λ v. one_port_lines v ≡ one_port_lines (view port past)) port tick
     (selected_at (moments_in past)) (selected_at (Ticked tick true ∷ moments_in past)) Leaves Selects (λ v e. e) (λ v e. e) (view port past) refl
 
-pub toy-move : (port tick : ℕ) (move : Panel) (past : List Seen)
-    → toy (view port (record { tick = tick; happening = PanelMoves move } ∷ past)) ≡ toy (view port past)
-toy-move port tick move past =
-    toy-change tick (change_of (health_at (moments_in past)) (health_at (Moved tick move ∷ moments_in past))) (view port past)
+pub one_port_lines-move : (port tick : ℕ) (move : Panel) (past : List Seen)
+    → one_port_lines (view port (record { tick = tick; happening = PanelMoves move } ∷ past)) ≡ one_port_lines (view port past)
+one_port_lines-move port tick move past =
+    one_port_lines-change tick (change_of (health_at (moments_in past)) (health_at (Moved tick move ∷ moments_in past))) (view port past)

@@ -1,4 +1,5 @@
--- A switch with one port: what it answers to the port's own acts, found from the port's view alone. A view is newest first, a transcript is oldest first.
+-- A switch with one port: what it answers to the port's own acts, found from the port's view alone. A view is newest first,
+-- a transcript is oldest first.
 use Rattle.std.specs.Prelude.{ℕ, Bool, true, false, ◌&&◌, ◌||◌, ◌==◌, List, [], ◌∷◌, ◌++◌, None, if◌then◌else◌}
 use Rattle.psd_base.specs.declared.act.Act.{Act}
 use Rattle.psd_base.specs.declared.act.Act.TheVariants as act
@@ -28,14 +29,21 @@ km_act act = moment_of km_descriptor (λ _. None) (λ _. false) act
 abbrev pub with_km_act : Act → List ControlAct → List ControlAct
 with_km_act act acts = if is_control_act act then km_act act ∷ acts else acts
 
--- the acts at the control endpoint of the keyboard and mouse since the port woke
-abbrev pub control_acts : List Item → List ControlAct
-control_acts [] = []
-control_acts (item ∷ past) = with_concern item.concern (control_acts past) where
-  with_concern : Concern → List ControlAct → List ControlAct
-  with_concern (Own Km act) acts = with_km_act act acts
-  with_concern Wakes acts = []
-  with_concern _ acts = acts
+-- what each part of a port was told since the port woke; newest first: the acts at the control endpoint of the keyboard and mouse
+pub record Parts : Type 0 where
+  pub control : List ControlAct
+
+abbrev pub fresh_parts : Parts
+fresh_parts = record { control = [] }
+
+abbrev pub with_part : Concern → Parts → Parts
+with_part (Own Km act) parts = record parts { control = with_km_act act parts.control }
+with_part Wakes parts = fresh_parts
+with_part _ parts = parts
+
+abbrev pub parts_of : List Item → Parts
+parts_of [] = fresh_parts
+parts_of (item ∷ past) = with_part item.concern (parts_of past)
 
 -- whether the emulated keyboard and mouse have this endpoint: 1 and 2 of a configured device
 abbrev pub has_interrupt_endpoint : ℕ → List ControlAct → Bool
@@ -54,7 +62,7 @@ km_answer acts act = if is_control_act act then control_answer acts act else int
 
 -- what an act at a connector is answered after a view. There is no token, so its connector is silent.
 abbrev pub live_answer : List Item → Side → Act → Answer
-live_answer past Km act = km_answer (control_acts past) act
+live_answer past Km act = km_answer (parts_of past).control act
 live_answer past Ua act = answer.Silent
 
 abbrev pub answer_to : List Item → Side → Act → Answer
@@ -65,9 +73,9 @@ abbrev pub line_of : List Item → ℕ → Side → Act → Line
 line_of past tick side act = record { tick = tick; side = side; act = act; answer = answer_to past side act }
 
 -- the transcript of a view
-abbrev pub toy : List Item → List Line
-toy [] = []
-toy (item ∷ past) = with_concern item.tick item.concern past (toy past) where
+abbrev pub one_port_lines : List Item → List Line
+one_port_lines [] = []
+one_port_lines (item ∷ past) = with_concern item.tick item.concern past (one_port_lines past) where
   with_concern : ℕ → Concern → List Item → List Line → List Line
   with_concern tick (Own side act) past lines = lines ++ line_of past tick side act ∷ []
   with_concern tick _ past lines = lines

@@ -7,12 +7,12 @@ use Rattle.switch_core.specs.declared.slot.Slot.TheVariants as slot
 use Rattle.switch_core.specs.declared.port.Port.{Port}
 use Rattle.switch_core.specs.declared.port.Live.{Live}
 use Rattle.switch_core.specs.View.{Item, view}
-use Rattle.switch_core.specs.OnePort.{is_live, control_acts}
+use Rattle.switch_core.specs.OnePort.{is_live, parts_of}
 
 -- a live port answers by what its computer did since it woke
 pub record LiveStands (port : Port Live) (past : List Item) : Type 0 where
   pub live : is_live past ≡ true
-  pub pipe : PipeStands port.state.pipe (control_acts past)
+  pub pipe : PipeStands port.state.pipe (parts_of past).control
 
 -- a dark port answers nothing
 abbrev pub SlotStands : Slot → List Item → Type 0
