@@ -1,7 +1,10 @@
 -- What a clock event makes of the selection.
 use Rattle.std.proofs.Common.{◌≡◌, ◌≢◌, ℕ, Bool, true, false, nat_eq, List, ◌∷◌, Option, Some, None, refl, cond}
 use Rattle.psd_base.specs.History.{newest}
-use Rattle.selector.specs.Choice.{Look, Choice, Nobody, Target, Selected, chosen, move_of, selected_in}
+use Rattle.fail_secure.specs.HealthChange.{is_alive}
+use Rattle.selector.specs.Choice.{Look, Choice, Nobody, Target, Selected, chosen, choice_after, move_of, selected_in}
+use Rattle.selector.specs.Moments.{Moment, Ticked}
+use Rattle.switch_core.specs.Chosen.{health_at, selection_moments, selected_at, move_at}
 use Rattle.switch_core.specs.Notes.{move_notes, selection_notes}
 
 is_somebody : (port : ℕ) (settled : Bool) → cond settled (Selected port) (Target port) ≢ Nobody
@@ -33,3 +36,14 @@ move_notes-is (Selected left) (Selected port) stays = by_same (nat_eq left port)
       → move_notes (move_of (Selected left) (Selected port)) ≡ selection_notes (Some left) (Some port)
   by_same true is = rw is refl
   by_same false is = rw is refl
+
+-- and so are those of a clock event, which moves the selection while the switch is alive
+pub move_notes-at : (past : List Moment) (tick : ℕ) (all_up : Bool)
+    → move_notes (move_at past tick all_up) ≡ selection_notes (selected_at past) (selected_at (Ticked tick all_up ∷ past))
+move_notes-at past tick all_up = by_alive (is_alive (health_at past)) refl where
+  by_alive : (alive : Bool) → is_alive (health_at past) ≡ alive
+      → move_notes (move_at past tick all_up) ≡ selection_notes (selected_at past) (selected_at (Ticked tick all_up ∷ past))
+  by_alive false is = rw is refl
+  by_alive true is =
+      rw is (move_notes-is (choice_after (selection_moments past)) (choice_after (Ticked tick all_up ∷ selection_moments past))
+      (λ port was. chosen-stays _ _ port was))

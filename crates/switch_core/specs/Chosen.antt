@@ -7,9 +7,11 @@ use Rattle.fail_secure.specs.declared.health.Health.{Health}
 use Rattle.fail_secure.specs.declared.health.Health.TheVariants.{Testing, Alive, Dark}
 use Rattle.fail_secure.specs.Health.{Report, Checked, Tampered, health_after}
 use Rattle.fail_secure.specs.HealthChange.{is_alive}
+use Rattle.selector.specs.declared.selector.Move.{Move}
+use Rattle.selector.specs.declared.selector.Move.TheVariants as move
 use Rattle.selector.specs.Moments.{Moment, Moved, Ticked}
 use Rattle.selector.specs.Panel.{are_buttons_up}
-use Rattle.selector.specs.Choice.{choice_after, selected_in}
+use Rattle.selector.specs.Choice.{choice_after, selected_in, move_of}
 
 -- a check is reported with whether no button is down
 abbrev pub with_report : Panel → Bool → List Report → List Report
@@ -50,6 +52,13 @@ selection_moments (Ticked tick all_up ∷ past) =
 -- the port that is selected; outside Alive none is
 abbrev pub selected_at : List Moment → Option ℕ
 selected_at past = if is_alive (health_at past) then selected_in (choice_after (selection_moments past)) else None
+
+-- what a clock event at this tick changes in the selection, where the console shows nothing pressed or something
+abbrev pub move_at : List Moment → ℕ → Bool → Move
+move_at past tick all_up =
+    if is_alive (health_at past)
+    then move_of (choice_after (selection_moments past)) (choice_after (selection_moments (Ticked tick all_up ∷ past)))
+    else move.Stay
 
 -- whether this port is the one
 abbrev pub is_at : ℕ → Option ℕ → Bool

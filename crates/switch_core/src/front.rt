@@ -1,10 +1,10 @@
 //! The front of the switch: its self-test and its selection, which the panel and the clock alone move.
-ghost use Rattle.std.specs.Prelude.{◌≡◌, ◌<◌, List, [], ◌∷◌, true};
+ghost use Rattle.std.specs.Prelude.{◌≡◌, ◌<◌, ◌≤◌, ◌+◌, List, [], ◌∷◌, ◌++◌, length};
+ghost use Rattle.psd_base.specs.declared.console.TheConstants.{NOTES_MAX};
 ghost use Rattle.fail_secure.specs.HealthChange.{change_of};
 ghost use Rattle.fail_secure.specs.declared.health.TheConstants.{ALL_CHECKS};
 ghost use Rattle.selector.specs.Moments.{Moment, Moved, Ticked};
-ghost use Rattle.selector.specs.Choice.{Choice, move_of};
-ghost use Rattle.switch_core.specs.Chosen.{IsKnownCheck, checks_in, health_at, selected_at};
+ghost use Rattle.switch_core.specs.Chosen.{IsKnownCheck, checks_in, health_at, move_at, selected_at};
 ghost use Rattle.switch_core.specs.Notes.{change_notes, move_notes, selection_notes};
 
 use crate::self_test::{health_moved, reason_for};
@@ -34,17 +34,31 @@ impl Front {
         }
     }
 
-    /// Time passes, and the console shows nothing pressed. The selection moves while the switch is alive alone.
-    pub fn clock(&mut self, tick: Tick, notes: &mut Notes)
-        requires empty { notes.old.items ≡ [] }
-        ensures stands { (past : List Moment) → FrontStands self.old past → FrontStands self.new (Ticked tick true ∷ past) }
-        ensures notes { (past : List Moment) → FrontStands self.old past
-            → notes.new.items ≡ selection_notes (selected_at past) (selected_at (Ticked tick true ∷ past)) }
+    /// Time passes; `all_up` says whether the console shows nothing pressed. Appends the notes of the selection, which
+    /// moves while the switch is alive alone, and gives its move.
+    pub fn clock(&mut self, tick: Tick, all_up: bool, notes: &mut Notes) -> Move
+        requires room { length notes.old.items + 2 ≤ NOTES_MAX }
+        ensures stands { (past : List Moment) → FrontStands self.old past
+            → FrontStands self.new (Ticked tick all_up ∷ past) }
+        ensures answer { (past : List Moment) → FrontStands self.old past → result ≡ move_at past tick all_up }
+        ensures notes { (past : List Moment) → FrontStands self.old past → notes.new.items
+            ≡ notes.old.items ++ selection_notes (selected_at past) (selected_at (Ticked tick all_up ∷ past)) }
+    {
+        let change = self.look(tick, all_up);
+        note_move(&change, notes);
+        change
+    }
+
+    /// Takes a clock event to the selection, while the switch is alive.
+    fn look(&mut self, tick: Tick, all_up: bool) -> Move
+        ensures stands { (past : List Moment) → FrontStands self.old past
+            → FrontStands self.new (Ticked tick all_up ∷ past) }
+        ensures answer { (past : List Moment) → FrontStands self.old past → result ≡ move_at past tick all_up }
     {
         match self.health {
-            Health::Testing { .. } => {}
-            Health::Alive => note_move(self.selector.clock(tick, true), notes),
-            Health::Dark => {}
+            Health::Testing { .. } => Move::Stay,
+            Health::Alive => self.selector.clock(tick, all_up),
+            Health::Dark => Move::Stay,
         }
     }
 
@@ -68,17 +82,17 @@ impl Front {
 }
 
 /// Notes which port was left and which was selected.
-fn note_move(moved: Move, notes: &mut Notes)
-    requires { notes.old.items ≡ [] }
-    ensures { notes.new.items ≡ move_notes moved }
+fn note_move(moved: &Move, notes: &mut Notes)
+    requires { length notes.old.items + 2 ≤ NOTES_MAX }
+    ensures { notes.new.items ≡ notes.old.items ++ move_notes moved.now }
 {
     match moved {
         Move::Stay => {}
-        Move::Leave(left, _) => notes.push(Note::Leave(left)),
-        Move::Enter(port) => notes.push(Note::Select(port)),
+        Move::Leave(left, _) => notes.push(Note::Leave(*left)),
+        Move::Enter(port) => notes.push(Note::Select(*port)),
         Move::LeaveEnter(left, port) => {
-            notes.push(Note::Leave(left));
-            notes.push(Note::Select(port));
+            notes.push(Note::Leave(*left));
+            notes.push(Note::Select(*port));
         }
     }
 }

@@ -104,7 +104,7 @@ fn serve(ports: &mut [Slot], front: &mut Front, event: &Event, turn: &mut Turn)
     match &event.what {
         What::Clock => {
             turn.line = None;
-            front.clock(event.tick, &mut turn.notes);
+            let _ = front.clock(event.tick, true, &mut turn.notes);
         }
         What::Port(port, side, act) => {
             serve_act(ports, event.tick, *port, *side, act, &mut turn.line);
