@@ -1,5 +1,5 @@
 pub mod Choices
 pub mod Fronts
 pub mod Independence
-pub mod Ports
+pub mod PortLists
 pub mod Views

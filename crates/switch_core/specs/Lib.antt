@@ -6,6 +6,8 @@ pub mod Lines
 pub mod Moments
 pub mod Notes
 pub mod OnePort
+pub mod PortsStand
 pub mod SlotStands
 pub mod StandsFor
 pub mod View
+pub mod Wired

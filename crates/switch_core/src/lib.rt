@@ -5,6 +5,7 @@ pub mod front;
 pub mod km_descriptors;
 pub mod laws;
 pub mod port;
+pub mod ports;
 mod self_test;
 pub mod slot;
 pub mod switch;

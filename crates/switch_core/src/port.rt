@@ -73,6 +73,7 @@ impl Port<Live> {
     /// Answers one act of the port's computer, in the place that the caller has for it: a copy of an answer costs a
     /// tenth of serving it.
     pub fn answer(&mut self, tick: Tick, side: Side, act: &Act, answer: &mut Answer)
+        ensures id { self.new.id ≡ self.old.id }
         ensures stands { (past : List Item) → LiveStands self.old past
             → LiveStands self.new (record { tick = tick; concern = Own side act.now } ∷ past) }
         ensures answer { (past : List Item) → LiveStands self.old past → answer.new ≡ answer_to past side act.now }

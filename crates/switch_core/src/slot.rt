@@ -18,10 +18,12 @@ pub enum Slot {
 
 impl Slot {
     ghost use Rattle.switch_core.specs.SlotStands.{SlotStands};
+    ghost use Rattle.switch_core.specs.Wired.{slot_number};
 
     /// Answers one act of the port's computer. A dark port is silent.
     #[inline(never)]
     pub fn answer(&mut self, tick: Tick, side: Side, act: &Act, answer: &mut Answer)
+        ensures number { slot_number self.new ≡ slot_number self.old }
         ensures stands { (past : List Item) → SlotStands self.old past
             → SlotStands self.new (record { tick = tick; concern = Own side act.now } ∷ past) }
         ensures answer { (past : List Item) → SlotStands self.old past → answer.new ≡ answer_to past side act.now }
@@ -33,7 +35,9 @@ impl Slot {
     }
 
     /// The number of the port.
-    fn id(&self) -> PortId {
+    fn id(&self) -> PortId
+        ensures { result ≡ slot_number self.now }
+    {
         match self {
             Slot::Dark(port) => port.id(),
             Slot::Live(port) => port.id(),
@@ -42,7 +46,8 @@ impl Slot {
 
     /// The port awake. One that is awake already stays as it is.
     fn woken(self) -> Slot
-        ensures { (past : List Item) (tick : ℕ) → is_live past ≡ false → SlotStands self past
+        ensures number { slot_number result ≡ slot_number self }
+        ensures stands { (past : List Item) (tick : ℕ) → is_live past ≡ false → SlotStands self past
             → SlotStands result (record { tick = tick; concern = Wakes } ∷ past) }
     {
         match self {
@@ -53,7 +58,8 @@ impl Slot {
 
     /// The port dark.
     fn darkened(self) -> Slot
-        ensures { (past : List Item) (tick : ℕ) → SlotStands result (record { tick = tick; concern = Darkens } ∷ past) }
+        ensures number { slot_number result ≡ slot_number self }
+        ensures stands { (past : List Item) (tick : ℕ) → SlotStands result (record { tick = tick; concern = Darkens } ∷ past) }
     {
         match self {
             Slot::Dark(port) => Slot::Dark(port),
@@ -63,7 +69,8 @@ impl Slot {
 
     /// Takes the port out, and leaves a dark one of its number.
     fn take(&mut self) -> Slot
-        ensures { result ≡ self.old }
+        ensures taken { result ≡ self.old }
+        ensures number { slot_number self.new ≡ slot_number self.old }
     {
         let id = self.id();
         mem::replace(self, Slot::Dark(Port::new(id)))
@@ -71,7 +78,8 @@ impl Slot {
 
     /// Wakes the port, where it is dark.
     pub fn wake(&mut self)
-        ensures { (past : List Item) (tick : ℕ) → is_live past ≡ false → SlotStands self.old past
+        ensures number { slot_number self.new ≡ slot_number self.old }
+        ensures stands { (past : List Item) (tick : ℕ) → is_live past ≡ false → SlotStands self.old past
             → SlotStands self.new (record { tick = tick; concern = Wakes } ∷ past) }
     {
         let port = self.take();
@@ -80,7 +88,9 @@ impl Slot {
 
     /// Darkens the port.
     pub fn darken(&mut self)
-        ensures { (past : List Item) (tick : ℕ) → SlotStands self.new (record { tick = tick; concern = Darkens } ∷ past) }
+        ensures number { slot_number self.new ≡ slot_number self.old }
+        ensures stands { (past : List Item) (tick : ℕ)
+            → SlotStands self.new (record { tick = tick; concern = Darkens } ∷ past) }
     {
         let port = self.take();
         *self = port.darkened();

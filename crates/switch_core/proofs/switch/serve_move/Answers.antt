@@ -13,9 +13,9 @@ returns-in-Wakes-clause-ports c = λ past front each place port is.
     let change = c.in-Wakes.ensures.change (moments_in past) front in
     let dark : (at : ℕ) → is_live (view (at + 1) past) ≡ false = λ at. is_live-view (at + 1) past ∙ wakes_from _ _ change in
     subst (λ (to : HealthChange). SlotStands port (stamped c.args.tick (change_concerns to) (view (place + 1) past))) change
-    (c.wake.ensures (views_of past) c.args.tick dark each place port is)
+    (c.wake.ensures.stand (views_of past) c.args.tick dark each place port is)
 
 pub returns-in-Darkens-clause-ports : goal.returns-in-Darkens-clause-ports
 returns-in-Darkens-clause-ports c = λ past front each place port is.
     subst (λ (to : HealthChange). SlotStands port (stamped c.args.tick (change_concerns to) (view (place + 1) past))) (c.in-Darkens.ensures.change (moments_in past) front)
-    (c.darken.ensures (views_of past) c.args.tick place port is)
+    (c.darken.ensures.stand (views_of past) c.args.tick place port is)

@@ -2,8 +2,13 @@
 use Rattle.std.proofs.Common.{◌≡◌, ℕ, ◌+◌, ◌-◌, ◌<◌, length, subst, arith}
 use Rattle.switch_core.specs.View.{view}
 use Rattle.switch_core.specs.OnePort.{line_of}
-use Rattle.switch_core.proofs.Ports.{AllStand-at, AllStand-act}
-use Rattle.switch_core.proofs.switch.answer_act.Goals as goal
+use Rattle.switch_core.proofs.PortLists.{AllStand-at, AllStand-act, IsWired-set}
+use Rattle.switch_core.proofs.ports.answer_act.Goals as goal
+
+pub returns-clause-wired : goal.returns-clause-wired
+returns-clause-wired c = λ wired.
+    let within : c.number.result - 1 < length c.args.ports.now = omega arith in
+    IsWired-set _ _ _ _ within wired c.answer.ensures.number
 
 pub returns-clause-stands : goal.returns-clause-stands
 returns-clause-stands c = λ past each.
