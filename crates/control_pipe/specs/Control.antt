@@ -33,8 +33,10 @@ offer_at descriptor class_input takes (act.Out address endpoint toggle bytes) = 
 offer_at descriptor class_input takes (act.In address endpoint acked) = no_offer
 
 -- an act, with what the function had for it
-abbrev pub moment_of : (Setup → Option (List ℕ)) → (Setup → Option (List ℕ)) → (Setup → Bool) → Act → ControlAct
-moment_of descriptor class_input takes act = record { act = act; offer = offer_at descriptor class_input takes act }
+abbrev pub moment_of : (Setup → Option (List ℕ)) → (Setup → Option (List ℕ)) → (Setup → Bool) → Act
+    → ControlAct
+moment_of descriptor class_input takes act =
+    record { act = act; offer = offer_at descriptor class_input takes act }
 
 -- whether an act is a bus reset or a transaction at endpoint 0
 abbrev pub is_control_act : Act → Bool
@@ -61,7 +63,8 @@ continued act session = continued_transfer act session.completed session.transfe
   continued_transfer : Act → List Request → Option Transfer → Session
   continued_transfer act completed None = record { completed = completed; transfer = None }
   continued_transfer act completed (Some transfer) = record {
-    completed = completed_with (if is_completed_by transfer act then request_of transfer.setup else None) completed;
+    completed = completed_with
+    (if is_completed_by transfer act then request_of transfer.setup else None) completed;
     transfer = Some (record transfer { acts = act ∷ transfer.acts });
   }
 
@@ -115,7 +118,8 @@ answer_in (Some transfer) act = transfer_answer transfer act
 -- what an act is answered after a history
 abbrev pub control_answer : List ControlAct → Act → Answer
 control_answer past act.Reset = answer.Silent
-control_answer past (act.Setup address setup) = if address == address_after past then answer.Ack else answer.Silent
+control_answer past (act.Setup address setup) =
+    if address == address_after past then answer.Ack else answer.Silent
 control_answer past (act.Out address endpoint toggle bytes) =
     if address == address_after past
     then answer_in (session_of past).transfer (act.Out address endpoint toggle bytes) else answer.Silent
@@ -154,7 +158,8 @@ control_effect past moment = effect_after past moment.act where
 abbrev pub function_of_completed : {D : Type 0} → (D → ℕ → Setup → List ℕ → D) → ℕ → Option Transfer → D → D
 function_of_completed after_class tick None device = device
 function_of_completed after_class tick (Some transfer) device =
-    function_for (request_of transfer.setup) (after_class device tick transfer.setup (received transfer.acts)) device
+    function_for (request_of transfer.setup)
+    (after_class device tick transfer.setup (received transfer.acts)) device
 
 abbrev pub control_function : {D : Type 0} → (D → ℕ → Setup → List ℕ → D) → List ControlAct → ℕ → Act → D → D
 control_function after_class past tick act device =

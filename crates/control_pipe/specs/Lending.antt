@@ -5,4 +5,5 @@ use Rattle.control_pipe.specs.contracts.pipe.Pipe.{the_row}
 
 -- once the borrow ends, the function is what was written last, and the rest is as it was
 abbrev pub LendsFunction : (F : RattleType) → MutBor (PipeValue F.Denot) → MutBor F.Denot → Fml
-LendsFunction F pipe function = Lends (the_row F) F pipe function (λ written. record pipe.now { function = written })
+LendsFunction F pipe function =
+    Lends (the_row F) F pipe function (λ written. record pipe.now { function = written })

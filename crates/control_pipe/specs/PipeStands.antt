@@ -31,16 +31,19 @@ status_progress false setup = Refusing
 abbrev pub progress_of_form : Form → Transfer → Progress
 progress_of_form Reading transfer =
     reading_progress (number_of is_out transfer.acts == 0)
-    (nat_lt (number_of is_acked_in transfer.acts) (packet_count transfer)) (cut_data transfer) transfer.maximum (packet_count transfer) (number_of is_acked_in transfer.acts)
+    (nat_lt (number_of is_acked_in transfer.acts) (packet_count transfer))
+    (cut_data transfer) transfer.maximum (packet_count transfer) (number_of is_acked_in transfer.acts)
 progress_of_form Writing transfer =
-    writing_progress (is_open transfer.acts) transfer.setup (received transfer.acts) (expected_toggle transfer.acts)
+    writing_progress (is_open transfer.acts) transfer.setup (received transfer.acts)
+    (expected_toggle transfer.acts)
 progress_of_form NoData transfer = status_progress (is_open transfer.acts) transfer.setup
 
 -- how far a transfer is after its acts
 abbrev pub progress_of : Option Transfer → Progress
 progress_of None = Refusing
 progress_of (Some transfer) =
-    if is_some transfer.due && all_fit transfer transfer.acts then progress_of_form (form_of transfer.setup) transfer else
+    if is_some transfer.due && all_fit transfer transfer.acts
+    then progress_of_form (form_of transfer.setup) transfer else
     Refusing
 
 -- registers and progress stand for a history of acts, newest first, where they are what the history tells

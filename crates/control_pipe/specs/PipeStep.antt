@@ -19,7 +19,8 @@ abbrev pub completed_by : Registers → Progress → Act → Option (Setup × Li
 completed_by registers progress act.Reset = None
 completed_by registers progress (act.Setup address setup) = None
 completed_by registers progress (act.Out address endpoint toggle bytes) = None
-completed_by registers progress (act.In address endpoint acked) = if address == registers.address && acked then completion progress else None
+completed_by registers progress (act.In address endpoint acked) =
+    if address == registers.address && acked then completion progress else None
 
 -- what a completed request leaves in the registers
 abbrev pub registers_for : Option Request → Registers → Registers
@@ -36,7 +37,8 @@ completed_effect None = effect.Nothing
 completed_effect (Some done) = effect_for (request_of done.0)
 
 -- the function after a completed request
-abbrev pub completed_function : {D : Type 0} → (D → ℕ → Setup → List ℕ → D) → ℕ → Option (Setup × List ℕ) → D → D
+abbrev pub completed_function : {D : Type 0} → (D → ℕ → Setup → List ℕ → D) → ℕ → Option (Setup × List ℕ)
+    → D → D
 completed_function after_class tick None device = device
 completed_function after_class tick (Some done) device =
     function_for (request_of done.0) (after_class device tick done.0 done.1) device
@@ -46,26 +48,34 @@ abbrev pub registers_at : Registers → Progress → Act → Registers
 registers_at registers progress act.Reset = reset_registers
 registers_at registers progress (act.Setup address setup) = registers
 registers_at registers progress (act.Out address endpoint toggle bytes) = registers
-registers_at registers progress (act.In address endpoint acked) = completed_registers (completed_by registers progress (act.In address endpoint acked)) registers
+registers_at registers progress (act.In address endpoint acked) =
+    completed_registers (completed_by registers progress (act.In address endpoint acked)) registers
 
 -- what an act completes, as the device is told
 abbrev pub effect_at : Registers → Progress → Act → Effect
 effect_at registers progress act.Reset = effect.Reset
 effect_at registers progress (act.Setup address setup) = effect.Nothing
 effect_at registers progress (act.Out address endpoint toggle bytes) = effect.Nothing
-effect_at registers progress (act.In address endpoint acked) = completed_effect (completed_by registers progress (act.In address endpoint acked))
+effect_at registers progress (act.In address endpoint acked) =
+    completed_effect (completed_by registers progress (act.In address endpoint acked))
 
 -- how far the last transfer is after an act
 abbrev pub progress_at : Registers → Progress → Offer → Act → Progress
 progress_at registers progress offer act.Reset = Refusing
 progress_at registers progress offer (act.Setup address setup) =
-    if address == registers.address then begun_progress PACKET_SIZE setup (due_for registers offer (request_of setup)) else progress
-progress_at registers progress offer (act.Out address endpoint toggle bytes) = if address == registers.address then after_out toggle bytes progress else progress
-progress_at registers progress offer (act.In address endpoint acked) = if address == registers.address then after_in acked progress else progress
+    if address == registers.address
+    then begun_progress PACKET_SIZE setup (due_for registers offer (request_of setup)) else progress
+progress_at registers progress offer (act.Out address endpoint toggle bytes) =
+    if address == registers.address then after_out toggle bytes progress else progress
+progress_at registers progress offer (act.In address endpoint acked) =
+    if address == registers.address then after_in acked progress else progress
 
 -- what an act is answered
 abbrev pub answer_at : Registers → Progress → Act → Answer
 answer_at registers progress act.Reset = answer.Silent
-answer_at registers progress (act.Setup address setup) = if address == registers.address then answer.Ack else answer.Silent
-answer_at registers progress (act.Out address endpoint toggle bytes) = if address == registers.address then out_answer toggle bytes progress else answer.Silent
-answer_at registers progress (act.In address endpoint acked) = if address == registers.address then in_answer progress else answer.Silent
+answer_at registers progress (act.Setup address setup) =
+    if address == registers.address then answer.Ack else answer.Silent
+answer_at registers progress (act.Out address endpoint toggle bytes) =
+    if address == registers.address then out_answer toggle bytes progress else answer.Silent
+answer_at registers progress (act.In address endpoint acked) =
+    if address == registers.address then in_answer progress else answer.Silent

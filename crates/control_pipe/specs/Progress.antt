@@ -22,7 +22,8 @@ pub data Progress : Type 0 where
 
 -- the stage in which a transfer of this maximum packet size begins whose data to the host are these, if it has any
 abbrev pub first_stage : ℕ → Form → Setup → List ℕ → Progress
-first_stage maximum Reading setup bytes = DataIn bytes maximum (packets_of (length bytes) setup.length maximum) 0
+first_stage maximum Reading setup bytes =
+    DataIn bytes maximum (packets_of (length bytes) setup.length maximum) 0
 first_stage maximum Writing setup bytes = DataOut setup [] true
 first_stage maximum NoData setup bytes = StatusIn setup
 
@@ -34,10 +35,12 @@ begun_progress maximum setup (Some due) = first_stage maximum (form_of setup) se
 -- an IN: what it is answered, and how far the transfer is then
 abbrev pub in_answer : Progress → Answer
 in_answer Refusing = answer.Stall
-in_answer (DataIn bytes maximum count sent) = answer.Data (sent % 2 == 0) (take maximum (drop (sent * maximum) bytes))
+in_answer (DataIn bytes maximum count sent) =
+    answer.Data (sent % 2 == 0) (take maximum (drop (sent * maximum) bytes))
 in_answer StatusOut = answer.Stall
 in_answer DoneOut = answer.Stall
-in_answer (DataOut setup bytes next) = if length bytes == setup.length then answer.Data true [] else answer.Stall
+in_answer (DataOut setup bytes next) =
+    if length bytes == setup.length then answer.Data true [] else answer.Stall
 in_answer (StatusIn setup) = answer.Data true []
 
 abbrev pub after_in : Bool → Progress → Progress
@@ -76,17 +79,20 @@ out_answer toggle packet (DataIn bytes maximum count sent) =
 out_answer toggle packet StatusOut = if is_status_out toggle packet then answer.Ack else answer.Stall
 out_answer toggle packet DoneOut = if is_status_out toggle packet then answer.Ack else answer.Stall
 out_answer toggle packet (DataOut setup bytes next) =
-    if same_toggle toggle next then (if is_room_for packet bytes setup.length then answer.Ack else answer.Stall) else
+    if same_toggle toggle next
+    then (if is_room_for packet bytes setup.length then answer.Ack else answer.Stall) else
     answer.Ack
 out_answer toggle packet (StatusIn setup) = answer.Stall
 
 abbrev pub after_out : Bool → List ℕ → Progress → Progress
 after_out toggle packet Refusing = Refusing
-after_out toggle packet (DataIn bytes maximum count sent) = if is_status_out toggle packet then DoneOut else Refusing
+after_out toggle packet (DataIn bytes maximum count sent) =
+    if is_status_out toggle packet then DoneOut else Refusing
 after_out toggle packet StatusOut = if is_status_out toggle packet then DoneOut else Refusing
 after_out toggle packet DoneOut = if is_status_out toggle packet then DoneOut else Refusing
 after_out toggle packet (DataOut setup bytes next) =
     if same_toggle toggle next
-    then (if is_room_for packet bytes setup.length then DataOut setup (bytes ++ packet) (not toggle) else Refusing)
+    then (if is_room_for packet bytes setup.length then DataOut setup (bytes ++ packet) (not toggle) else
+    Refusing)
     else DataOut setup bytes next
 after_out toggle packet (StatusIn setup) = Refusing

@@ -65,7 +65,8 @@ abbrev pub halt_of : Setup → Option Endpoint
 halt_of setup = if setup.value == ENDPOINT_HALT then interrupt_endpoint setup.index else None
 
 abbrev pub address_to_set : Setup → Option Standard
-address_to_set setup = when (nat_lt setup.value ADDRESSES && setup.index == 0) (standard.SetAddress setup.value)
+address_to_set setup =
+    when (nat_lt setup.value ADDRESSES && setup.index == 0) (standard.SetAddress setup.value)
 
 abbrev pub configuration_to_set : Setup → Option Standard
 configuration_to_set setup =
@@ -127,7 +128,8 @@ abbrev pub standard_due : Registers → Standard → Option (List ℕ)
 standard_due registers standard.GetDeviceStatus = Some (status false)
 standard_due registers standard.GetInterfaceStatus = when (is_configured registers) (status false)
 standard_due registers standard.GetControlStatus = Some (status false)
-standard_due registers (standard.GetEndpointStatus end) = when (is_configured registers) (status (halt_at registers end))
+standard_due registers (standard.GetEndpointStatus end) =
+    when (is_configured registers) (status (halt_at registers end))
 standard_due registers (standard.ClearHalt end) = when (is_configured registers) []
 standard_due registers (standard.SetHalt end) = when (is_configured registers) []
 standard_due registers (standard.SetAddress address) = when (not (is_configured registers)) []

@@ -58,13 +58,15 @@ same_toggle false second = not second
 -- the toggle that the next data packet from the host must have: DATA1 first, the other after each packet that was kept
 abbrev pub expected_toggle : List Act → Bool
 expected_toggle [] = true
-expected_toggle (act.Out address endpoint toggle bytes ∷ acts) = if same_toggle toggle (expected_toggle acts) then not toggle else expected_toggle acts
+expected_toggle (act.Out address endpoint toggle bytes ∷ acts) =
+    if same_toggle toggle (expected_toggle acts) then not toggle else expected_toggle acts
 expected_toggle (_ ∷ acts) = expected_toggle acts
 
 -- the bytes of the kept packets
 abbrev pub received : List Act → List ℕ
 received [] = []
-received (act.Out address endpoint toggle bytes ∷ acts) = if same_toggle toggle (expected_toggle acts) then received acts ++ bytes else received acts
+received (act.Out address endpoint toggle bytes ∷ acts) =
+    if same_toggle toggle (expected_toggle acts) then received acts ++ bytes else received acts
 received (_ ∷ acts) = received acts
 
 -- whether the status stage is still to come: no acknowledged IN
@@ -74,9 +76,11 @@ is_open acts = number_of is_acked_in acts == 0
 -- whether an act fits a transfer of this form, for which the host asked for so many bytes and which has so many packets,
 -- after the acts before it
 abbrev pub is_fit : Form → ℕ → ℕ → List Act → Act → Bool
-is_fit Reading asked count acts (act.In address endpoint acked) = number_of is_out acts == 0 && nat_lt (number_of is_acked_in acts) count
+is_fit Reading asked count acts (act.In address endpoint acked) =
+    number_of is_out acts == 0 && nat_lt (number_of is_acked_in acts) count
 is_fit Reading asked count acts (act.Out address endpoint toggle bytes) = toggle && length bytes == 0
-is_fit Writing asked count acts (act.In address endpoint acked) = length (received acts) == asked && is_open acts
+is_fit Writing asked count acts (act.In address endpoint acked) =
+    length (received acts) == asked && is_open acts
 is_fit Writing asked count acts (act.Out address endpoint toggle bytes) =
     is_open acts && (if same_toggle toggle (expected_toggle acts)
     then nat_lt (length (received acts)) asked && nat_le (length (received acts) + length bytes) asked
@@ -94,7 +98,9 @@ all_fit transfer acts = each_fit (form_of transfer.setup) transfer.setup.length 
 
 -- the data packet that answers a fit IN
 abbrev pub reply_to_in : Form → Transfer → Answer
-reply_to_in Reading transfer = answer.Data (number_of is_acked_in transfer.acts % 2 == 0) (packet_at transfer (number_of is_acked_in transfer.acts))
+reply_to_in Reading transfer =
+    answer.Data (number_of is_acked_in transfer.acts % 2 == 0)
+    (packet_at transfer (number_of is_acked_in transfer.acts))
 reply_to_in _ transfer = answer.Data true []
 
 abbrev pub fit_answer : Transfer → Act → Answer
@@ -104,7 +110,8 @@ fit_answer transfer _ = answer.Ack
 -- the first act that isn't fit, and all later ones, are answered STALL, and so is every act of a request that isn't supported
 abbrev pub transfer_answer : Transfer → Act → Answer
 transfer_answer transfer act =
-    if is_some transfer.due && all_fit transfer (act ∷ transfer.acts) then fit_answer transfer act else answer.Stall
+    if is_some transfer.due && all_fit transfer (act ∷ transfer.acts) then fit_answer transfer act else
+    answer.Stall
 
 -- whether the status stage goes to the host
 abbrev pub has_status_in : Form → Bool
@@ -114,4 +121,6 @@ has_status_in NoData = true
 
 -- whether the act ends the status stage of a transfer whose data don't go to the host: an acknowledged IN, answered with data
 abbrev pub is_completed_by : Transfer → Act → Bool
-is_completed_by transfer act = is_some transfer.due && is_acked_in act && has_status_in (form_of transfer.setup) && all_fit transfer (act ∷ transfer.acts)
+is_completed_by transfer act =
+    is_some transfer.due && is_acked_in act && has_status_in (form_of transfer.setup)
+    && all_fit transfer (act ∷ transfer.acts)

@@ -17,8 +17,10 @@ progress_in maximum stage.StatusIn setup bytes = StatusIn setup
 -- each packet lies within the data; what comes from the host fits so many bytes
 abbrev pub IsSound : ℕ → ℕ → Stage → Setup → List ℕ → Type 0
 IsSound maximum room stage.Refusing setup bytes = Unit {0}
-IsSound maximum room (stage.DataIn sent count) setup bytes = (sent < count) × (count * maximum ≤ length bytes + maximum)
+IsSound maximum room (stage.DataIn sent count) setup bytes =
+    (sent < count) × (count * maximum ≤ length bytes + maximum)
 IsSound maximum room stage.StatusOut setup bytes = Unit {0}
 IsSound maximum room stage.DoneOut setup bytes = Unit {0}
-IsSound maximum room (stage.DataOut toggle) setup bytes = (setup.length ≤ room) × (length bytes ≤ setup.length)
+IsSound maximum room (stage.DataOut toggle) setup bytes =
+    (setup.length ≤ room) × (length bytes ≤ setup.length)
 IsSound maximum room stage.StatusIn setup bytes = (setup.length ≡ 0) × (bytes ≡ [])

@@ -42,11 +42,13 @@ pub trait Function {
         requires fits { length bytes.now ≤ PACKET_SIZE }
         ensures { self.new ≡ after_class self.old tick setup.now bytes.now };
 
-    ghost short_descriptor: { (device : Self) (setup : Setup) → IfSome (descriptor_of device setup) (λ bytes. length bytes ≤ BLOCK_SIZE) };
+    ghost short_descriptor: { (device : Self) (setup : Setup)
+        → IfSome (descriptor_of device setup) (λ bytes. length bytes ≤ BLOCK_SIZE) };
 
     ghost short_class: { (setup : Setup) → IsTrue (takes_class setup) → setup.length ≤ PACKET_SIZE };
 
-    ghost refuses_class: { (device : Self) (tick : ℕ) (setup : Setup) (bytes : List ℕ) → takes_class setup ≡ false
+    ghost refuses_class: { (device : Self) (tick : ℕ) (setup : Setup) (bytes : List ℕ)
+        → takes_class setup ≡ false
         → after_class device tick setup bytes ≡ device };
 
     ghost keeps_descriptors: { (device : Self) (tick : ℕ) (setup : Setup) (bytes : List ℕ) (other : Setup)

@@ -109,7 +109,8 @@ impl<F: Function> Pipe<F> {
 
     /// Whether an endpoint is halted (USB 2.0, 9.4.5). Only the interrupt endpoints 1 and 2 can be.
     pub fn halted(&self, endpoint: u8) -> bool
-        ensures { (past : List ControlAct) → PipeStands self.now past → result ≡ is_halted_after endpoint past }
+        ensures { (past : List ControlAct) → PipeStands self.now past
+            → result ≡ is_halted_after endpoint past }
     {
         self.registers.is_halted(endpoint)
     }
@@ -186,7 +187,8 @@ impl<F: Function> Pipe<F> {
 
     /// Takes up the request of a setup.
     fn begin(&mut self, setup: &Setup)
-        ensures progress { self.new.progress ≡ begun_progress PACKET_SIZE setup.now (due_for self.old.registers
+        ensures progress { self.new.progress
+            ≡ begun_progress PACKET_SIZE setup.now (due_for self.old.registers
             (offer_for (F.descriptor_of self.old.function) (F.class_input_of self.old.function) F.takes_class setup.now)
             (request_of setup.now)) }
         ensures registers { self.new.registers ≡ self.old.registers }
@@ -253,7 +255,8 @@ impl<F: Function> Pipe<F> {
     /// Carries out the request that an acknowledged IN completes, if it does.
     fn complete(&mut self, tick: Tick) -> Effect
         ensures progress { self.new.progress ≡ self.old.progress }
-        ensures registers { self.new.registers ≡ completed_registers (completion self.old.progress) self.old.registers }
+        ensures registers { self.new.registers
+            ≡ completed_registers (completion self.old.progress) self.old.registers }
         ensures function { self.new.function
             ≡ completed_function F.after_class tick (completion self.old.progress) self.old.function }
         ensures effect { result ≡ completed_effect (completion self.old.progress) }

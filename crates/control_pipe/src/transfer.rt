@@ -90,7 +90,8 @@ impl Transfer {
     fn begin_supported(&mut self, setup: &Setup, due: &[u8])
         requires short { length due.now ≤ BLOCK_SIZE }
         requires writes_little { setup.now.kind < 128 → setup.now.length ≤ PACKET_SIZE }
-        ensures { self.new ≡ first_stage PACKET_SIZE (form_of setup.now) setup.now (take setup.now.length due.now) }
+        ensures { self.new ≡ first_stage PACKET_SIZE (form_of setup.now) setup.now
+            (take setup.now.length due.now) }
     {
         self.setup = *setup;
         self.bytes.clear();
@@ -272,7 +273,8 @@ fn packet_count(count: usize, asked: u16) -> usize
 /// Writes the packet of this number, counted from 0, as an answer.
 fn data_packet(bytes: &[u8], number: usize, answer: &mut Answer)
     requires { number * PACKET_SIZE ≤ length bytes.now }
-    ensures { answer.new ≡ Answer.Data (number % 2 == 0) (take PACKET_SIZE (drop (number * PACKET_SIZE) bytes.now)) }
+    ensures { answer.new
+        ≡ Answer.Data (number % 2 == 0) (take PACKET_SIZE (drop (number * PACKET_SIZE) bytes.now)) }
 {
     let rest = &bytes[number * PACKET_SIZE..];
     *answer = Answer::Data {

@@ -34,7 +34,8 @@ have_all_passed past = has_passed 1 past && has_passed 2 past && has_passed 3 pa
 abbrev pub ended_with_button : List Report → Bool
 ended_with_button [] = false
 ended_with_button (report ∷ past) =
-    if have_all_passed past then ended_with_button past else have_all_passed (report ∷ past) && has_button_down report
+    if have_all_passed past then ended_with_button past else
+    have_all_passed (report ∷ past) && has_button_down report
 
 -- Dark from the first failure on, whenever it comes, and from a self-test on that ended with a button down.
 abbrev pub has_failed : List Report → Bool
@@ -47,7 +48,8 @@ passed_bits past =
     + (if has_passed 3 past then 4 else 0) + (if has_passed 4 past then 8 else 0)
 
 unfoldable pub health_after : List Report → Health
-health_after past = if has_failed past then Dark else (if have_all_passed past then Alive else Testing (passed_bits past))
+health_after past =
+    if has_failed past then Dark else (if have_all_passed past then Alive else Testing (passed_bits past))
 
 -- a self-test that goes on lacks a check
 abbrev pub IsUnfinished : Health → Type 0

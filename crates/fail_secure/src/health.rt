@@ -52,7 +52,8 @@ impl Health {
     #[tactic(auto, unfolding(crate::specs::Health::health_after))]
     pub fn tamper(self) -> Health
         requires unfinished { IsUnfinished self }
-        ensures health { (past : List Report) → self ≡ health_after past → result ≡ health_after (Tampered ∷ past) }
+        ensures health { (past : List Report) → self ≡ health_after past
+            → result ≡ health_after (Tampered ∷ past) }
         ensures unfinished { IsUnfinished result }
     {
         Health::Dark // from whatever it was

@@ -4,7 +4,9 @@ use Rattle.std.specs.Prelude.{◌&&◌, ◌||◌, ◌==◌}
 use Rattle.std.specs.List.{list_any}
 use Rattle.std.proofs.lemmas.Bool.{ne_eqb, cases_eq}
 use Rattle.psd_base.specs.History.{newest, since, or_else}
-use Rattle.selector.specs.Choice.{Look, Choice, Nobody, Target, Selected, names, names_other, asks_for, asks_for_other, is_settled, chosen_of, chosen}
+use Rattle.selector.specs.declared.choice.Choice.{Choice}
+use Rattle.selector.specs.declared.choice.Choice.TheVariants.{Nobody, Target, Selected}
+use Rattle.selector.specs.Choice.{Look, names, names_other, asks_for, asks_for_other, is_settled, chosen_of, chosen}
 use Rattle.selector.specs.ChoiceStep.{asked_for, after_ask, after_look}
 
 abbrev last_ask : List Look → Option ℕ

@@ -5,7 +5,8 @@ use Rattle.selector.specs.declared.selector.Move.TheVariants.{Stay, Leave, Enter
 use Rattle.selector.specs.declared.selector.Move.{Move}
 use Rattle.selector.specs.Moments.{Moment, Moved, Ticked}
 use Rattle.selector.specs.Panel.{ports_down, are_buttons_up, pair_after, pair_since}
-use Rattle.selector.specs.Choice.{Nobody, Target, chosen, choice_after, selected_in, move_of}
+use Rattle.selector.specs.declared.choice.Choice.TheVariants.{Nobody, Target}
+use Rattle.selector.specs.Choice.{chosen, choice_after, selected_in, move_of}
 
 -- what a moment changes
 abbrev move_at : Moment → List Moment → Move

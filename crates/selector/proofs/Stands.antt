@@ -9,7 +9,9 @@ use Rattle.selector.specs.declared.selector.Move.{Move}
 use Rattle.selector.specs.Moments.{Moment, Moved, Ticked}
 use Rattle.selector.specs.Panel.{is_guard_down, is_empty, only_one, ports_down, are_buttons_up, pair_after, pair_since, is_same_pair}
 use Rattle.selector.specs.Buttons.{ButtonsStand, ports_in, pair_in}
-use Rattle.selector.specs.Choice.{Choice, Nobody, ask_of, looks_in, chosen, choice_after, move_of}
+use Rattle.selector.specs.declared.choice.Choice.{Choice}
+use Rattle.selector.specs.declared.choice.Choice.TheVariants.{Nobody}
+use Rattle.selector.specs.Choice.{ask_of, looks_in, chosen, choice_after, move_of}
 use Rattle.selector.specs.ChoiceStep.{after_ask, after_look}
 use Rattle.selector.specs.SelectorStands.{SelectorValue, SelectorStands}
 use Rattle.selector.proofs.Choices.{chosen-look}

@@ -7,12 +7,14 @@ use Rattle.selector.specs.Panel.{is_button_down, is_empty, only_one}
 
 -- each flag is as the last move of its button left it
 abbrev pub ButtonsStand : List Bool → List Moment → Type 0
-ButtonsStand buttons past = (port : ℕ) → IsPort port → slice_index_or buttons (port - 1) false ≡ is_button_down port past
+ButtonsStand buttons past =
+    (port : ℕ) → IsPort port → slice_index_or buttons (port - 1) false ≡ is_button_down port past
 
 -- the ports whose flags are set, ascending, where the flags are those of the ports from this one on
 abbrev pub ports_in : ℕ → List Bool → List ℕ
 ports_in start [] = []
-ports_in start (down ∷ buttons) = if down then start ∷ ports_in (start + 1) buttons else ports_in (start + 1) buttons
+ports_in start (down ∷ buttons) =
+    if down then start ∷ ports_in (start + 1) buttons else ports_in (start + 1) buttons
 
 -- the port whose pair stands
 abbrev pub pair_in : Bool → List Bool → Option ℕ

@@ -2,6 +2,8 @@
 use Rattle.std.specs.Prelude.{ℕ, ◌+◌, Bool, false, not, ◌&&◌, ◌||◌, ◌==◌, nat_le, List, [], ◌∷◌, Option, Some, None, if◌then◌else◌}
 use Rattle.std.specs.List.{list_any}
 use Rattle.psd_base.specs.History.{newest, since}
+use Rattle.selector.specs.declared.choice.Choice.{Choice}
+use Rattle.selector.specs.declared.choice.Choice.TheVariants.{Nobody, Target, Selected}
 use Rattle.selector.specs.declared.selector.Move.{Move}
 use Rattle.selector.specs.declared.selector.Move.TheVariants as move
 use Rattle.selector.specs.declared.selector.TheConstants.{HOLD}
@@ -22,13 +24,8 @@ ask_of (Some port) held_since tick = if nat_le (held_since + HOLD) tick then Som
 abbrev pub looks_in : List Moment → List Look
 looks_in [] = []
 looks_in (Moved tick panel ∷ past) = looks_in past
-looks_in (Ticked tick all_up ∷ past) = record { ask = ask_of (pair_after past) (pair_since past) tick; all_up = all_up } ∷ looks_in past
-
--- nobody was asked for; a port waits for the console to show nothing pressed; a port is selected
-pub data Choice : Type 0 where
-  Nobody : Choice
-  Target : ℕ → Choice
-  Selected : ℕ → Choice
+looks_in (Ticked tick all_up ∷ past) =
+    record { ask = ask_of (pair_after past) (pair_since past) tick; all_up = all_up } ∷ looks_in past
 
 -- whether an ask is one for the port, or one for another
 abbrev pub names : ℕ → Option ℕ → Bool
@@ -48,14 +45,17 @@ asks_for_other port look = names_other port look.ask
 -- whether the console showed nothing pressed at an ask for the port or at a clock event after one
 abbrev pub is_settled : ℕ → List Look → Bool
 is_settled port [] = false
-is_settled port (look ∷ looks) = (look.all_up && list_any (asks_for port) (look ∷ looks)) || is_settled port looks
+is_settled port (look ∷ looks) =
+    (look.all_up && list_any (asks_for port) (look ∷ looks)) || is_settled port looks
 
 -- the last port that was asked for, selected or waiting by its run: what came after the last ask for another port
 abbrev pub chosen_of : Option ℕ → List Look → Choice
 chosen_of None looks = Nobody
-chosen_of (Some port) looks = if is_settled port (since (asks_for_other port) looks) then Selected port else Target port
+chosen_of (Some port) looks =
+    if is_settled port (since (asks_for_other port) looks) then Selected port else Target port
 
--- The last port that was asked for. It is selected as soon as the console showed nothing pressed at the first ask of its run or later.
+-- The last port that was asked for. It is selected as soon as the console showed nothing pressed at the first ask of
+-- its run or later.
 unfoldable pub chosen : List Look → Choice
 chosen looks = chosen_of (newest (λ look. look.ask) looks) looks
 

@@ -1,13 +1,7 @@
 -- What one clock event makes of the choice, step by step.
 use Rattle.std.specs.Prelude.{ℕ, Bool, ◌==◌, Option, Some, None, if◌then◌else◌}
-use Rattle.selector.specs.declared.choice.Choice.{Choice as Kept}
-use Rattle.selector.specs.declared.choice.Choice.TheVariants as kept
-use Rattle.selector.specs.Choice.{Choice, Nobody, Target, Selected}
-
-abbrev pub choice_of : Kept → Choice
-choice_of kept.Nobody = Nobody
-choice_of (kept.Target port) = Target port
-choice_of (kept.Selected port) = Selected port
+use Rattle.selector.specs.declared.choice.Choice.{Choice}
+use Rattle.selector.specs.declared.choice.Choice.TheVariants.{Nobody, Target, Selected}
 
 -- an ask for the selected port changes nothing; any other makes its port the target
 abbrev pub asked_for : ℕ → Choice → Choice

@@ -68,4 +68,5 @@ is_same_pair (Some first) (Some second) = first == second
 abbrev pub pair_since : List Moment → ℕ
 pair_since [] = 0
 pair_since (Ticked tick all_up ∷ past) = pair_since past
-pair_since (Moved tick move ∷ past) = if is_same_pair (pair_after past) (pair_after (Moved tick move ∷ past)) then pair_since past else tick
+pair_since (Moved tick move ∷ past) =
+    if is_same_pair (pair_after past) (pair_after (Moved tick move ∷ past)) then pair_since past else tick

@@ -3,7 +3,8 @@ use Rattle.std.specs.Prelude.{◌≡◌, ℕ, Bool, List, Option}
 use Rattle.selector.specs.Moments.{Moment}
 use Rattle.selector.specs.Buttons.{ButtonsStand}
 use Rattle.selector.specs.Panel.{is_guard_down, pair_after, pair_since}
-use Rattle.selector.specs.Choice.{Choice, choice_after}
+use Rattle.selector.specs.declared.choice.Choice.{Choice}
+use Rattle.selector.specs.Choice.{choice_after}
 
 -- a selector as plain data; the buttons are those of the ports from 1 on
 pub record SelectorValue : Type 0 where

@@ -2,7 +2,7 @@
 //! shows.
 ghost use Rattle.std.specs.Prelude.{◌≡◌, Bool, IsTrue};
 ghost use Rattle.selector.specs.Choice.{move_of};
-ghost use Rattle.selector.specs.ChoiceStep.{choice_of, after_ask, after_look};
+ghost use Rattle.selector.specs.ChoiceStep.{after_ask, after_look};
 
 use crate::selector::Move;
 use psd_base::port::PortId;
@@ -21,8 +21,8 @@ pub enum Choice {
 /// Takes a clock event that asks for this port, if for one, and says whether the console shows nothing pressed.
 /// Gives what it changes.
 pub fn take_look(choice: &mut Choice, ask: Option<PortId>, all_up: bool) -> Move
-    ensures choice { choice_of choice.new ≡ after_look all_up (after_ask ask (choice_of choice.old)) }
-    ensures change { result ≡ move_of (choice_of choice.old) (choice_of choice.new) }
+    ensures choice { choice.new ≡ after_look all_up (after_ask ask choice.old) }
+    ensures change { result ≡ move_of choice.old choice.new }
 {
     if is_idle(choice, &ask) {
         return Move::Stay;
@@ -35,8 +35,8 @@ pub fn take_look(choice: &mut Choice, ask: Option<PortId>, all_up: bool) -> Move
 
 /// Whether nothing is asked for and no port waits: then no look changes the choice.
 fn is_idle(choice: &Choice, ask: &Option<PortId>) -> bool
-    ensures { IsTrue result → (all_up : Bool) → after_look all_up (after_ask ask.now (choice_of choice.now))
-        ≡ choice_of choice.now }
+    ensures { IsTrue result → (all_up : Bool) → after_look all_up (after_ask ask.now choice.now)
+        ≡ choice.now }
 {
     match ask {
         Some(_) => false,
@@ -50,7 +50,7 @@ fn is_idle(choice: &Choice, ask: &Option<PortId>) -> bool
 
 /// The choice after an ask for this port, if one is asked for.
 fn after_ask(choice: Choice, ask: Option<PortId>) -> Choice
-    ensures { choice_of result ≡ after_ask ask (choice_of choice) }
+    ensures { result ≡ after_ask ask choice }
 {
     match ask {
         None => choice,
@@ -70,7 +70,7 @@ fn after_ask(choice: Choice, ask: Option<PortId>) -> Choice
 
 /// The choice once the console was seen, with nothing pressed or with something.
 fn after_look(choice: Choice, all_up: bool) -> Choice
-    ensures { choice_of result ≡ after_look all_up (choice_of choice) }
+    ensures { result ≡ after_look all_up choice }
 {
     match choice {
         Choice::Nobody => Choice::Nobody,
@@ -87,7 +87,7 @@ fn after_look(choice: Choice, all_up: bool) -> Choice
 
 /// What changes from one choice to the next.
 fn move_between(before: &Choice, after: &Choice) -> Move
-    ensures { result ≡ move_of (choice_of before.now) (choice_of after.now) }
+    ensures { result ≡ move_of before.now after.now }
 {
     match after {
         Choice::Nobody => Move::Stay,

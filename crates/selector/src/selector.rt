@@ -43,7 +43,6 @@ pub struct Selector {
 impl Model for Selector {
     ghost use Rattle.std.specs.Prelude.{◌≡◌, length};
     ghost use Rattle.psd_base.specs.declared.port.TheConstants.{MAX_PORTS};
-    ghost use Rattle.selector.specs.ChoiceStep.{choice_of};
     ghost use Rattle.selector.specs.SelectorStands.{SelectorValue};
     ghost use Rattle.selector.specs.Buttons.{IsPanel};
 
@@ -54,7 +53,7 @@ impl Model for Selector {
       buttons = selector.buttons;
       pair = selector.pair;
       held_since = selector.held_since;
-      choice = choice_of selector.choice;
+      choice = selector.choice;
     } };
 
     ghost invariant = { λ selector. IsPanel selector.guard selector.buttons selector.buttons_up };
@@ -108,7 +107,8 @@ impl Selector {
 
     /// The selected port.
     pub fn selected(&self) -> Option<PortId>
-        ensures { (past : List Moment) → SelectorStands self.now past → result ≡ selected_in (choice_after past) }
+        ensures { (past : List Moment) → SelectorStands self.now past
+            → result ≡ selected_in (choice_after past) }
     {
         match self.choice {
             Choice::Nobody => None,

@@ -2,7 +2,9 @@
 use Rattle.std.proofs.Common.{◌≡◌, ◌≢◌, ℕ, Bool, true, false, nat_eq, List, ◌∷◌, Option, Some, None, refl, cond}
 use Rattle.psd_base.specs.History.{newest}
 use Rattle.fail_secure.specs.HealthChange.{is_alive}
-use Rattle.selector.specs.Choice.{Look, Choice, Nobody, Target, Selected, chosen, choice_after, move_of, selected_in}
+use Rattle.selector.specs.declared.choice.Choice.{Choice}
+use Rattle.selector.specs.declared.choice.Choice.TheVariants.{Nobody, Target, Selected}
+use Rattle.selector.specs.Choice.{Look, chosen, choice_after, move_of, selected_in}
 use Rattle.selector.specs.Moments.{Moment, Ticked}
 use Rattle.switch_core.specs.Chosen.{health_at, selection_moments, selected_at, move_at}
 use Rattle.switch_core.specs.Notes.{move_notes, selection_notes}

@@ -1,4 +1,5 @@
 pub mod Choices
+mod Examples
 pub mod Fronts
 pub mod Independence
 pub mod PortLists

@@ -15,7 +15,7 @@ use Rattle.control_pipe.specs.PipeStands.{PipeStands}
 use Rattle.switch_core.specs.declared.slot.Slot.{Slot}
 use Rattle.switch_core.specs.declared.slot.Slot.TheVariants as slot
 use Rattle.fail_secure.specs.HealthChange.{is_alive, change_of}
-use Rattle.switch_core.specs.Moments.{moments_in}
+use Rattle.switch_core.specs.FrontMoments.{moments_in}
 use Rattle.switch_core.specs.Chosen.{health_at, selected_at, is_at}
 use Rattle.switch_core.specs.View.{Concern, Own, Selects, Leaves, Item, stamped, only_if, handed, change_concerns, view}
 use Rattle.switch_core.specs.OnePort.{Parts, is_live, parts_of, one_port_lines}

@@ -51,13 +51,15 @@ selection_moments (Ticked tick all_up ∷ past) =
 
 -- the port that is selected; outside Alive none is
 abbrev pub selected_at : List Moment → Option ℕ
-selected_at past = if is_alive (health_at past) then selected_in (choice_after (selection_moments past)) else None
+selected_at past =
+    if is_alive (health_at past) then selected_in (choice_after (selection_moments past)) else None
 
 -- what a clock event at this tick changes in the selection, where the console shows nothing pressed or something
 abbrev pub move_at : List Moment → ℕ → Bool → Move
 move_at past tick all_up =
     if is_alive (health_at past)
-    then move_of (choice_after (selection_moments past)) (choice_after (selection_moments (Ticked tick all_up ∷ past)))
+    then move_of (choice_after (selection_moments past))
+    (choice_after (selection_moments (Ticked tick all_up ∷ past)))
     else move.Stay
 
 -- whether this port is the one

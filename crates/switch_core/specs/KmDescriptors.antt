@@ -6,7 +6,8 @@ use Rattle.switch_core.specs.declared.km_descriptors.TheConstants.{DEVICE, CONFI
 
 -- whether a setup is GET_DESCRIPTOR with this kind, value and index
 abbrev pub is_get_descriptor : ℕ → ℕ → ℕ → Setup → Bool
-is_get_descriptor kind value index setup = setup.kind == kind && setup.request == 6 && setup.value == value && setup.index == index
+is_get_descriptor kind value index setup =
+    setup.kind == kind && setup.request == 6 && setup.value == value && setup.index == index
 
 -- the HID descriptors are parts of the configuration: the third and the sixth of its descriptors
 unfoldable pub km_descriptor : Setup → Option (List ℕ)
@@ -23,7 +24,8 @@ km_descriptor setup =
 abbrev IsShort : Option (List ℕ) → Type 0
 IsShort descriptor = IfSome descriptor (λ bytes. length bytes ≤ 1024)
 
-if_short : (test : Bool) (first second : Option (List ℕ)) → IsShort first → IsShort second → IsShort (if test then first else second)
+if_short : (test : Bool) (first second : Option (List ℕ)) → IsShort first → IsShort second
+    → IsShort (if test then first else second)
 if_short true first second short_first short_second = short_first
 if_short false first second short_first short_second = short_second
 

@@ -1,9 +1,9 @@
 pub mod Chosen
+pub mod FrontMoments
 pub mod FrontStands
 pub mod Independence
 pub mod KmDescriptors
 pub mod Lines
-pub mod Moments
 pub mod Notes
 pub mod OnePort
 pub mod PortsStand

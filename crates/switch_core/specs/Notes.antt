@@ -13,7 +13,7 @@ use Rattle.selector.specs.Moments.{Moment, Moved, Ticked}
 use Rattle.fail_secure.specs.declared.health_change.HealthChange.{HealthChange}
 use Rattle.fail_secure.specs.declared.health_change.HealthChange.TheVariants as change
 use Rattle.fail_secure.specs.HealthChange.{change_of}
-use Rattle.switch_core.specs.Moments.{moments_in}
+use Rattle.switch_core.specs.FrontMoments.{moments_in}
 use Rattle.switch_core.specs.Chosen.{health_at, selected_at}
 
 -- why a move makes the switch dark: a check that failed, an opened case, or a button that was down when the last check passed
@@ -36,9 +36,11 @@ selection_notes (Some left) None = note.Leave left ∷ []
 selection_notes (Some left) (Some port) = if left == port then [] else note.Leave left ∷ note.Select port ∷ []
 
 abbrev pub notes_of : ℕ → Happening → List Moment → List Note
-notes_of tick TimePasses moments = selection_notes (selected_at moments) (selected_at (Ticked tick true ∷ moments))
+notes_of tick TimePasses moments =
+    selection_notes (selected_at moments) (selected_at (Ticked tick true ∷ moments))
 notes_of tick (PortActs port side act) moments = []
-notes_of tick (PanelMoves move) moments = change_notes move (change_of (health_at moments) (health_at (Moved tick move ∷ moments)))
+notes_of tick (PanelMoves move) moments =
+    change_notes move (change_of (health_at moments) (health_at (Moved tick move ∷ moments)))
 
 -- what the log says of an event after a history
 abbrev pub notes_at : Seen → List Seen → List Note

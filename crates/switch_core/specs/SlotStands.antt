@@ -21,7 +21,8 @@ SlotStands (slot.Live port) past = LiveStands port past
 
 -- each port stands for its view
 abbrev pub AllStand : List Slot → (ℕ → List Item) → Type 0
-AllStand ports views = (place : ℕ) (port : Slot) → slice_get ports place ≡ Some port → SlotStands port (views place)
+AllStand ports views =
+    (place : ℕ) (port : Slot) → slice_get ports place ≡ Some port → SlotStands port (views place)
 
 -- the views of all ports, which are numbered from 1
 abbrev pub views_of : List Seen → ℕ → List Item

@@ -2,7 +2,7 @@
 use Rattle.std.specs.Prelude.{ℕ, List}
 use Rattle.psd_base.specs.Event.{Seen}
 use Rattle.switch_core.specs.declared.switch.Switch.{Switch}
-use Rattle.switch_core.specs.Moments.{moments_in}
+use Rattle.switch_core.specs.FrontMoments.{moments_in}
 use Rattle.switch_core.specs.FrontStands.{FrontStands}
 use Rattle.switch_core.specs.SlotStands.{views_of}
 use Rattle.switch_core.specs.PortsStand.{PortsStand, port_count}

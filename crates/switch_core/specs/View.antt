@@ -8,7 +8,7 @@ use Rattle.selector.specs.Moments.{Moment, Moved, Ticked}
 use Rattle.fail_secure.specs.declared.health_change.HealthChange.{HealthChange}
 use Rattle.fail_secure.specs.declared.health_change.HealthChange.TheVariants as change
 use Rattle.fail_secure.specs.HealthChange.{change_of}
-use Rattle.switch_core.specs.Moments.{moments_in}
+use Rattle.switch_core.specs.FrontMoments.{moments_in}
 use Rattle.switch_core.specs.Chosen.{health_at, selected_at, is_at}
 
 -- What concerns a port: an act of its computer; that the switch is alive, or dark; that the port is selected, or left.
@@ -27,7 +27,8 @@ pub record Item : Type 0 where
 -- the concerns of one event, in their order, each with the event's tick
 abbrev pub stamped : ℕ → List Concern → List Item → List Item
 stamped tick [] view = view
-stamped tick (concern ∷ concerns) view = stamped tick concerns (record { tick = tick; concern = concern } ∷ view)
+stamped tick (concern ∷ concerns) view =
+    stamped tick concerns (record { tick = tick; concern = concern } ∷ view)
 
 abbrev pub only_if : Bool → Concern → List Concern
 only_if true concern = concern ∷ []

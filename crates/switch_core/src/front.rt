@@ -40,9 +40,11 @@ impl Front {
         requires room { length notes.old.items + 2 ≤ NOTES_MAX }
         ensures stands { (past : List Moment) → FrontStands self.old past
             → FrontStands self.new (Ticked tick all_up ∷ past) }
-        ensures answer { (past : List Moment) → FrontStands self.old past → result ≡ move_at past tick all_up }
+        ensures answer { (past : List Moment) → FrontStands self.old past
+            → result ≡ move_at past tick all_up }
         ensures notes { (past : List Moment) → FrontStands self.old past → notes.new.items
-            ≡ notes.old.items ++ selection_notes (selected_at past) (selected_at (Ticked tick all_up ∷ past)) }
+            ≡ notes.old.items ++ selection_notes (selected_at past)
+            (selected_at (Ticked tick all_up ∷ past)) }
     {
         let change = self.look(tick, all_up);
         note_move(&change, notes);
@@ -53,7 +55,8 @@ impl Front {
     fn look(&mut self, tick: Tick, all_up: bool) -> Move
         ensures stands { (past : List Moment) → FrontStands self.old past
             → FrontStands self.new (Ticked tick all_up ∷ past) }
-        ensures answer { (past : List Moment) → FrontStands self.old past → result ≡ move_at past tick all_up }
+        ensures answer { (past : List Moment) → FrontStands self.old past
+            → result ≡ move_at past tick all_up }
     {
         match self.health {
             Health::Testing { .. } => Move::Stay,
@@ -66,7 +69,8 @@ impl Front {
     pub fn moved(&mut self, tick: Tick, panel: &Panel, notes: &mut Notes) -> HealthChange
         requires known { IsKnownCheck panel.now }
         requires empty { notes.old.items ≡ [] }
-        ensures stands { (past : List Moment) → FrontStands self.old past → FrontStands self.new (Moved tick panel.now ∷ past) }
+        ensures stands { (past : List Moment) → FrontStands self.old past
+            → FrontStands self.new (Moved tick panel.now ∷ past) }
         ensures change { (past : List Moment) → FrontStands self.old past
             → result ≡ change_of (health_at past) (health_at (Moved tick panel.now ∷ past)) }
         ensures notes { notes.new.items ≡ change_notes panel.now result }

@@ -76,7 +76,8 @@ impl Port<Live> {
         ensures id { self.new.id ≡ self.old.id }
         ensures stands { (past : List Item) → LiveStands self.old past
             → LiveStands self.new (record { tick = tick; concern = Own side act.now } ∷ past) }
-        ensures answer { (past : List Item) → LiveStands self.old past → answer.new ≡ answer_to past side act.now }
+        ensures answer { (past : List Item) → LiveStands self.old past
+            → answer.new ≡ answer_to past side act.now }
     {
         match side {
             Side::Km => answer_km(&mut self.state.pipe, tick, act, answer),
@@ -87,8 +88,10 @@ impl Port<Live> {
 
 /// Answers one act at the keyboard and mouse.
 fn answer_km(pipe: &mut Pipe<KmDescriptors>, tick: Tick, act: &Act, answer: &mut Answer)
-    ensures stands { (acts : List ControlAct) → PipeStands pipe.old acts → PipeStands pipe.new (with_km_act act.now acts) }
-    ensures answer { (acts : List ControlAct) → PipeStands pipe.old acts → answer.new ≡ km_answer acts act.now }
+    ensures stands { (acts : List ControlAct) → PipeStands pipe.old acts
+        → PipeStands pipe.new (with_km_act act.now acts) }
+    ensures answer { (acts : List ControlAct) → PipeStands pipe.old acts
+        → answer.new ≡ km_answer acts act.now }
 {
     if is_at_control_endpoint(act) {
         let _ = pipe.answer(tick, act, answer);
@@ -111,7 +114,8 @@ fn is_at_control_endpoint(act: &Act) -> bool
 
 /// Answers a transaction at another endpoint than 0. The keyboard's and the mouse's endpoint have nothing due.
 fn answer_interrupt(pipe: &Pipe<KmDescriptors>, act: &Act, answer: &mut Answer)
-    ensures { (acts : List ControlAct) → PipeStands pipe.now acts → answer.new ≡ interrupt_answer acts act.now }
+    ensures { (acts : List ControlAct) → PipeStands pipe.now acts
+        → answer.new ≡ interrupt_answer acts act.now }
 {
     match act {
         Act::Reset => *answer = Answer::Silent,
@@ -135,7 +139,8 @@ fn answer_interrupt(pipe: &Pipe<KmDescriptors>, act: &Act, answer: &mut Answer)
 
 /// Whether the device has this endpoint beside endpoint 0.
 fn has_endpoint(pipe: &Pipe<KmDescriptors>, endpoint: u8) -> bool
-    ensures { (acts : List ControlAct) → PipeStands pipe.now acts → result ≡ has_interrupt_endpoint endpoint acts }
+    ensures { (acts : List ControlAct) → PipeStands pipe.now acts
+        → result ≡ has_interrupt_endpoint endpoint acts }
 {
     (endpoint == 1 || endpoint == 2) && pipe.configured()
 }

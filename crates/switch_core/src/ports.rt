@@ -70,7 +70,8 @@ impl Ports {
         requires { port ≤ port_count self.old }
         ensures count { port_count self.new ≡ port_count self.old }
         ensures stands { (past : List Seen) → PortsStand self.old (views_of past)
-            → PortsStand self.new (views_of (record { tick = tick; happening = PortActs port side act.now } ∷ past)) }
+            → PortsStand self.new
+            (views_of (record { tick = tick; happening = PortActs port side act.now } ∷ past)) }
         ensures line { (past : List Seen) → PortsStand self.old (views_of past)
             → line.new ≡ Some (port, line_of (view port past) tick side act.now) }
     {
@@ -104,7 +105,8 @@ fn dark_port(others: u8) -> Slot
 /// Wakes all ports, which are dark.
 fn wake_all(ports: &mut [Slot])
     ensures wired { IsWired ports.old → IsWired ports.new }
-    ensures stand { (views : ℕ → List Item) (tick : ℕ) → ((place : ℕ) → is_live (views place) ≡ false) → AllStand ports.old views
+    ensures stand { (views : ℕ → List Item) (tick : ℕ) → ((place : ℕ) → is_live (views place) ≡ false)
+        → AllStand ports.old views
         → AllStand ports.new (λ place. record { tick = tick; concern = Wakes } ∷ views place) }
 {
     for slot in ports.iter_mut() {
@@ -138,7 +140,8 @@ fn answer_act(ports: &mut [Slot], tick: Tick, port: PortId, side: Side, act: &Ac
     requires { port ≤ length ports.old }
     ensures wired { IsWired ports.old → IsWired ports.new }
     ensures stands { (past : List Seen) → AllStand ports.old (views_of past)
-        → AllStand ports.new (views_of (record { tick = tick; happening = PortActs port side act.now } ∷ past)) }
+        → AllStand ports.new
+        (views_of (record { tick = tick; happening = PortActs port side act.now } ∷ past)) }
     ensures line { (past : List Seen) → AllStand ports.old (views_of past)
         → line.new ≡ line_of (view port past) tick side act.now }
 {

@@ -26,7 +26,8 @@ impl Slot {
         ensures number { slot_number self.new ≡ slot_number self.old }
         ensures stands { (past : List Item) → SlotStands self.old past
             → SlotStands self.new (record { tick = tick; concern = Own side act.now } ∷ past) }
-        ensures answer { (past : List Item) → SlotStands self.old past → answer.new ≡ answer_to past side act.now }
+        ensures answer { (past : List Item) → SlotStands self.old past
+            → answer.new ≡ answer_to past side act.now }
     {
         match self {
             Slot::Dark(_) => *answer = Answer::Silent,
@@ -59,7 +60,8 @@ impl Slot {
     /// The port dark.
     fn darkened(self) -> Slot
         ensures number { slot_number result ≡ slot_number self }
-        ensures stands { (past : List Item) (tick : ℕ) → SlotStands result (record { tick = tick; concern = Darkens } ∷ past) }
+        ensures stands { (past : List Item) (tick : ℕ)
+            → SlotStands result (record { tick = tick; concern = Darkens } ∷ past) }
     {
         match self {
             Slot::Dark(port) => Slot::Dark(port),

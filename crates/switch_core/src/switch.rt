@@ -2,7 +2,7 @@
 ghost use Rattle.std.specs.Prelude.{◌≡◌, ◌+◌, ◌<◌, ◌≤◌, List, [], ◌∷◌, IfOk};
 ghost use Rattle.psd_base.specs.Event.{Seen, seen, happening_of, HappensWithin, PanelMoves};
 ghost use Rattle.switch_core.specs.Chosen.{IsKnownCheck};
-ghost use Rattle.switch_core.specs.Moments.{moments_in};
+ghost use Rattle.switch_core.specs.FrontMoments.{moments_in};
 ghost use Rattle.switch_core.specs.Notes.{notes_at};
 ghost use Rattle.switch_core.specs.SlotStands.{views_of};
 ghost use Rattle.switch_core.specs.PortsStand.{PortsStand, port_count};
@@ -57,9 +57,12 @@ impl Switch {
     pub fn step(&mut self, event: &Event, turn: &mut Turn)
         requires known { HappensWithin (port_total self.old) (happening_of event.now.what) }
         requires room { self.old.served < EVENTS_MAX }
-        ensures stands { (past : List Seen) → StandsFor self.old past → StandsFor self.new (seen event.now ∷ past) }
-        ensures line { (past : List Seen) → StandsFor self.old past → turn.new.line ≡ line_at (seen event.now) past }
-        ensures notes { (past : List Seen) → StandsFor self.old past → turn.new.notes.items ≡ notes_at (seen event.now) past }
+        ensures stands { (past : List Seen) → StandsFor self.old past
+            → StandsFor self.new (seen event.now ∷ past) }
+        ensures line { (past : List Seen) → StandsFor self.old past
+            → turn.new.line ≡ line_at (seen event.now) past }
+        ensures notes { (past : List Seen) → StandsFor self.old past
+            → turn.new.notes.items ≡ notes_at (seen event.now) past }
         ensures served { self.new.served ≡ self.old.served + 1 }
         ensures ports { port_total self.new ≡ port_total self.old }
     {
@@ -76,11 +79,13 @@ fn serve(ports: &mut Ports, front: &mut Front, event: &Event, turn: &mut Turn)
     requires known { HappensWithin (port_count ports.old) (happening_of event.now.what) }
     requires empty { turn.old.notes.items ≡ [] }
     ensures count { port_count ports.new ≡ port_count ports.old }
-    ensures ports { (past : List Seen) → FrontStands front.old (moments_in past) → PortsStand ports.old (views_of past)
+    ensures ports { (past : List Seen) → FrontStands front.old (moments_in past)
+        → PortsStand ports.old (views_of past)
         → PortsStand ports.new (views_of (seen event.now ∷ past)) }
     ensures front { (past : List Seen) → FrontStands front.old (moments_in past)
         → FrontStands front.new (moments_in (seen event.now ∷ past)) }
-    ensures line { (past : List Seen) → PortsStand ports.old (views_of past) → turn.new.line ≡ line_at (seen event.now) past }
+    ensures line { (past : List Seen) → PortsStand ports.old (views_of past)
+        → turn.new.line ≡ line_at (seen event.now) past }
     ensures notes { (past : List Seen) → FrontStands front.old (moments_in past)
         → turn.new.notes.items ≡ notes_at (seen event.now) past }
 {
@@ -104,10 +109,12 @@ fn serve_move(ports: &mut Ports, front: &mut Front, tick: Tick, panel: &Panel, n
     requires known { IsKnownCheck panel.now }
     requires empty { notes.old.items ≡ [] }
     ensures count { port_count ports.new ≡ port_count ports.old }
-    ensures ports { (past : List Seen) → FrontStands front.old (moments_in past) → PortsStand ports.old (views_of past)
+    ensures ports { (past : List Seen) → FrontStands front.old (moments_in past)
+        → PortsStand ports.old (views_of past)
         → PortsStand ports.new (views_of (record { tick = tick; happening = PanelMoves panel.now } ∷ past)) }
     ensures front { (past : List Seen) → FrontStands front.old (moments_in past)
-        → FrontStands front.new (moments_in (record { tick = tick; happening = PanelMoves panel.now } ∷ past)) }
+        → FrontStands front.new
+        (moments_in (record { tick = tick; happening = PanelMoves panel.now } ∷ past)) }
     ensures notes { (past : List Seen) → FrontStands front.old (moments_in past)
         → notes.new.items ≡ notes_at (record { tick = tick; happening = PanelMoves panel.now }) past }
 {

@@ -2,7 +2,7 @@
 use Rattle.std.proofs.Common.{◌+◌, ◌∷◌, true}
 use Rattle.selector.specs.Moments.{Ticked}
 use Rattle.switch_core.specs.Chosen.{selected_at}
-use Rattle.switch_core.specs.Moments.{moments_in}
+use Rattle.switch_core.specs.FrontMoments.{moments_in}
 use Rattle.switch_core.specs.View.{view}
 use Rattle.switch_core.proofs.Views.{SlotStands-selection}
 use Rattle.switch_core.proofs.switch.serve.Goals as goal

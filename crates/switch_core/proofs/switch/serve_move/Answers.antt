@@ -1,7 +1,7 @@
 -- The ports wake, or go dark, where the health changes so.
 use Rattle.std.proofs.Common.{◌≡◌, ◌+◌, ℕ, false, ◌∙◌, subst}
 use Rattle.fail_secure.specs.declared.health_change.HealthChange.{HealthChange}
-use Rattle.switch_core.specs.Moments.{moments_in}
+use Rattle.switch_core.specs.FrontMoments.{moments_in}
 use Rattle.switch_core.specs.View.{view, stamped, change_concerns}
 use Rattle.switch_core.specs.OnePort.{is_live}
 use Rattle.switch_core.specs.SlotStands.{SlotStands, views_of}

@@ -1,4 +1,5 @@
--- What self-test and selection are found from: the panel's moves, and the clock events with what the console shows. No act of a computer is among them.
+-- What self-test and selection are found from: the panel's moves, and the clock events with what the console shows.
+-- No act of a computer is among them.
 use Rattle.std.specs.Prelude.{ℕ, true, List, [], ◌∷◌}
 use Rattle.psd_base.specs.Event.{Happening, TimePasses, PortActs, PanelMoves, Seen}
 use Rattle.selector.specs.Moments.{Moment, Moved, Ticked}

@@ -1,0 +1,100 @@
+-- The definitions at work on small runs, each computed. Histories are newest first.
+use Rattle.std.specs.Prelude.{◌≡◌, ℕ, true, false, List, [], ◌∷◌, Option, Some, option_map, take, length, refl}
+use Rattle.psd_base.specs.Event.{Seen, TimePasses, PortActs, PanelMoves}
+use Rattle.psd_base.specs.Setup.{setup_of}
+use Rattle.psd_base.specs.declared.act.Act.TheVariants as act
+use Rattle.psd_base.specs.declared.act.Answer.TheVariants as answer
+use Rattle.psd_base.specs.declared.act.Side.TheVariants.{Km}
+use Rattle.psd_base.specs.declared.console.Note.TheVariants as note
+use Rattle.psd_base.specs.declared.console.Panel.{Panel}
+use Rattle.psd_base.specs.declared.console.Panel.TheVariants as panel
+use Rattle.psd_base.specs.declared.console.Reason.TheVariants as reason
+use Rattle.control_pipe.specs.Control.{ControlAct}
+use Rattle.fail_secure.specs.Health.{health_after}
+use Rattle.selector.specs.Panel.{ports_down}
+use Rattle.selector.specs.Choice.{chosen}
+use Rattle.switch_core.specs.KmDescriptors.{km_descriptor}
+use Rattle.switch_core.specs.Lines.{line_at}
+use Rattle.switch_core.specs.Notes.{notes_at}
+use Rattle.switch_core.specs.OnePort.{km_act, interrupt_answer, one_port_lines}
+use Rattle.switch_core.specs.View.{view}
+
+-- a configured keyboard and mouse, at address 0
+abbrev configured : List ControlAct
+configured =
+    km_act (act.In 0 0 true)
+    ∷ km_act (act.Setup 0 (setup_of (0 ∷ 9 ∷ 1 ∷ 0 ∷ 0 ∷ 0 ∷ 0 ∷ 0 ∷ [])))
+    ∷ []
+
+idle_keyboard : interrupt_answer configured (act.In 0 1 true) ≡ answer.Nak
+idle_keyboard = refl
+
+idle_mouse : interrupt_answer configured (act.In 0 2 true) ≡ answer.Nak
+idle_mouse = refl
+
+no_third_endpoint : interrupt_answer configured (act.In 0 3 true) ≡ answer.Silent
+no_third_endpoint = refl
+
+no_endpoint_before_configuration : interrupt_answer [] (act.In 0 1 true) ≡ answer.Silent
+no_endpoint_before_configuration = refl
+
+-- the report descriptors begin with a keyboard's and a mouse's usage
+abbrev first_four : List ℕ → Option (List ℕ)
+first_four setup = option_map (take 4) (km_descriptor (setup_of setup))
+
+keyboard_report : first_four (0x81 ∷ 6 ∷ 0 ∷ 0x22 ∷ 0 ∷ 0 ∷ 0x40 ∷ 0 ∷ []) ≡ Some (0x05 ∷ 0x01 ∷ 0x09 ∷ 0x06 ∷ [])
+unfolding km_descriptor
+keyboard_report = refl
+
+mouse_report : first_four (0x81 ∷ 6 ∷ 0 ∷ 0x22 ∷ 1 ∷ 0 ∷ 0x34 ∷ 0 ∷ []) ≡ Some (0x05 ∷ 0x01 ∷ 0x09 ∷ 0x02 ∷ [])
+unfolding km_descriptor
+mouse_report = refl
+
+-- a run: an act of port 1 in self-test, the four checks, and acts of ports 1 and 2
+abbrev moved : ℕ → Panel → Seen
+moved tick move = record { tick = tick; happening = PanelMoves move }
+
+abbrev reset_of : ℕ → ℕ → Seen
+reset_of tick port = record { tick = tick; happening = PortActs port Km act.Reset }
+
+abbrev asked : ℕ → ℕ → Seen
+asked tick port = record { tick = tick; happening = PortActs port Km (act.Setup 0 (setup_of (0x80 ∷ 6 ∷ 0 ∷ 1 ∷ 0 ∷ 0 ∷ 0x40 ∷ 0 ∷ []))) }
+
+abbrev tested : List Seen
+tested =
+    moved 0 (panel.Check 4 true) ∷ moved 0 (panel.Check 3 true) ∷ moved 0 (panel.Check 2 true)
+    ∷ moved 0 (panel.Check 1 true) ∷ asked 0 1 ∷ []
+
+silent_in_self_test : option_map (λ line. line.1.answer) (line_at (asked 1 1) (asked 0 1 ∷ [])) ≡ Some answer.Silent
+unfolding health_after
+silent_in_self_test = refl
+
+answers_when_alive : option_map (λ line. line.1.answer) (line_at (asked 1 1) tested) ≡ Some answer.Ack
+unfolding health_after ports_down
+answers_when_alive = refl
+
+alive_is_noted : notes_at (moved 0 (panel.Check 4 true)) (moved 0 (panel.Check 3 true) ∷ moved 0 (panel.Check 2 true) ∷ moved 0 (panel.Check 1 true) ∷ [])
+    ≡ note.Alive ∷ []
+unfolding health_after ports_down
+alive_is_noted = refl
+
+failure_is_noted : notes_at (moved 9 (panel.Check 2 false)) tested ≡ note.Dark (reason.Check 2) ∷ []
+unfolding health_after ports_down
+failure_is_noted = refl
+
+-- the acts of port 2 are none of port 1's
+own_lines_alone : length (one_port_lines (view 1 (asked 2 2 ∷ asked 1 1 ∷ tested))) ≡ 2
+unfolding health_after ports_down
+own_lines_alone = refl
+
+-- port 1 is selected at the clock event at 100
+abbrev pressed : List Seen
+pressed = moved 0 (panel.Button 1 true) ∷ moved 0 (panel.Guard true) ∷ tested
+
+selection_is_noted : notes_at (record { tick = 100; happening = TimePasses }) pressed ≡ note.Select 1 ∷ []
+unfolding health_after ports_down chosen
+selection_is_noted = refl
+
+not_a_tick_earlier : notes_at (record { tick = 99; happening = TimePasses }) pressed ≡ []
+unfolding health_after ports_down chosen
+not_a_tick_earlier = refl
