@@ -15,14 +15,17 @@ use Rattle.admin_rules.specs.RuleFile.{Lists, rules_of}
 use Rattle.capture_reader.specs.Reader.{IsOver, NewFailed}
 use Rattle.capture_reader.specs.Merge.{schedule_told}
 use Rattle.capture_reader.specs.Schedule.{Schedule, over}
+use Rattle.port_transcript.specs.StopLine.{stop_text}
 use Rattle.kvm_program.specs.Check.{CheckEnds, Checks, CheckStops, OnlyChecks}
 use Rattle.kvm_program.specs.Outlets.{AndFaults, Grew}
 use Rattle.kvm_program.specs.Progress.{WroteAtStop}
-use Rattle.kvm_program.specs.Replay.{EndsUnlessNoMemory, IsUnread, NothingFailed, OnlyReplays, Replays, ReportAtStop, ReportWritten, RulesJudged, RunStops, Serves, TextWritten}
+use Rattle.kvm_program.specs.Replay.{EndsUnlessNoMemory, FaultWritten, IsUnread, NothingFailed, OnlyReplays, Replays, ReportAtStop, ReportWritten, RulesJudged, RunStops, Serves, TextWritten}
 use Rattle.kvm_program.specs.Report.{report_text, summary_of}
 use Rattle.kvm_program.specs.Rules.{RulesAreFaulty, RulesStop}
 use Rattle.kvm_program.specs.Run.{Run, run_told}
+use Rattle.kvm_program.specs.Log.{log_of}
 use Rattle.kvm_program.specs.Texts.{text_of}
+use Rattle.kvm_program.specs.Transcript.{transcript_of}
 use Rattle.kvm_program.proofs.Parts.{Grew-nothing, Grew-whole}
 use Rattle.kvm_program.proofs.Serving.{Grew-empty, Rose-between}
 use Rattle.kvm_program.proofs.Told.{schedule_of_told}
@@ -116,11 +119,18 @@ pub Serves-between : (result : Result Summary Stop) (run : Run) (before mid mid_
     → ((to : Outlet) → mid.sent to ≡ before.sent to) → ((to : Outlet) → to ≢ outlet.Faults → after.sent to ≡ mid_after.sent to)
     → Serves result run mid mid_after → Serves result run before after
 Serves-between result run before mid mid_after after same same_after serves = record {
-  ports = λ port. moved (λ b a. TextWritten result _ b a) _ _ _ _ (sym (same (outlet.Port port))) (same_after (outlet.Port port) (λ e. absurd (cc))) (serves.ports port);
-  log = moved (λ b a. TextWritten result _ b a) _ _ _ _ (sym (same outlet.Log)) (same_after outlet.Log (λ e. absurd (cc))) serves.log;
-  report = moved (λ b a. ReportWritten result _ b a) _ _ _ _ (sym (same outlet.Report)) (same_after outlet.Report (λ e. absurd (cc))) serves.report;
+  ports = λ port. between (outlet.Port port) (TextWritten result (transcript_of port run.schedule.events)) (λ e. absurd (cc)) (serves.ports port);
+  log = between outlet.Log (TextWritten result (log_of run.schedule.events)) (λ e. absurd (cc)) serves.log;
+  report = between outlet.Report (ReportWritten result (report_text (summary_of run.ports run.schedule.events))) (λ e. absurd (cc)) serves.report;
   ok = serves.ok;
-}
+} where
+  between : (to : Outlet) (Holds : Option (List ℕ) → Option (List ℕ) → Type 0) → to ≢ outlet.Faults → Holds (mid.sent to) (mid_after.sent to) → Holds (before.sent to) (after.sent to)
+  between to Holds apart holds = moved Holds (mid.sent to) (before.sent to) (mid_after.sent to) (after.sent to) (sym (same to)) (same_after to apart) holds
+
+-- the number of ports by another way
+pub Serves-ports : (result : Result Summary Stop) (run : Run) (ports : ℕ) (before after : Told) → ports ≡ run.ports
+    → Serves result (record { ports = ports; schedule = run.schedule }) before after → Serves result run before after
+Serves-ports result run ports before after same serves = subst (λ (n : ℕ). Serves result (record { ports = n; schedule = run.schedule }) before after) same serves
 
 -- why a run stops, told from an earlier and to a later moment
 pub RunStops-between : (stop : Stop) (refused : RulesFault → Type 0) (unread unread_too : Type 0) (coming : Option Schedule) (before mid mid_after after : Told)
@@ -168,7 +178,7 @@ replay_completes (Err stop) before after run bytes because told whole read sound
 -- the rules were refused, or not read
 pub Replays-refused : (stop : Stop) (before after : Told) → RulesStop before after stop → OnlyReads input.Rules before after → Replays (Err stop) before after
 Replays-refused stop before after because only = record {
-  serves = λ run told. Serves-stopped stop run before after (λ to. written stop to because) (same outlet.Report);
+  serves = λ run told. Serves-stopped stop run before after (λ to. written stop to (text_of to run.schedule.events) because) (same outlet.Report);
   rules = λ bytes read. judged stop bytes read because;
   stop = by_stop stop because;
   complete = λ run bytes told whole read sound none. replay_completes (Err stop) before after run bytes (by_stop stop because) told whole read sound none;
@@ -185,17 +195,17 @@ Replays-refused stop before after because only = record {
   unread : IsUnread before after
   unread = (only.inputs input.Capture (λ e. absurd (cc)), only.inputs input.Script (λ e. absurd (cc)))
 
-  written : (stop : Stop) (to : Outlet) {text : List ℕ} → RulesStop before after stop → WroteAtStop stop text (before.sent to) (after.sent to)
-  written (Rules why) to is = same to
-  written (ReadFault input.Rules) to is = same to
-  written (ReadFault input.Capture) to is = absurd is
-  written (ReadFault input.Script) to is = absurd is
-  written OutOfMemory to is = same to
-  written (Capture offset why) to is = absurd is
-  written (Script line why) to is = absurd is
-  written TooLong to is = absurd is
-  written (WriteFault place) to is = absurd is
-  written Usage to is = absurd is
+  written : (stop : Stop) (to : Outlet) (text : List ℕ) → RulesStop before after stop → WroteAtStop stop text (before.sent to) (after.sent to)
+  written (Rules why) to text is = same to
+  written (ReadFault input.Rules) to text is = same to
+  written (ReadFault input.Capture) to text is = absurd is
+  written (ReadFault input.Script) to text is = absurd is
+  written OutOfMemory to text is = same to
+  written (Capture offset why) to text is = absurd is
+  written (Script line why) to text is = absurd is
+  written TooLong to text is = absurd is
+  written (WriteFault place) to text is = absurd is
+  written Usage to text is = absurd is
 
   judged : (stop : Stop) (bytes : List ℕ) → before.left input.Rules ≡ Some bytes → RulesStop before after stop → RulesJudged (Err stop) (rules_of bytes)
   judged (Rules why) bytes read is = subst (λ (left : Option (List ℕ)). IfSome left (λ bs. rules_of bs ≡ Err why)) read is
@@ -361,3 +371,12 @@ check_completes (Err stop) before after bytes because read sound none = by_stop 
   by_stop (Script line why) is = absurd is
   by_stop TooLong is = absurd is
   by_stop Usage is = absurd is
+
+-- a fault line is the only thing that was written to the faults
+pub FaultWritten-told : (stop : Stop) (before mid after : Told) → mid.sent outlet.Faults ≡ before.sent outlet.Faults
+    → before.write_faults outlet.Faults ≤ mid.write_faults outlet.Faults → FaultWritten stop mid after → FaultWritten stop before after
+FaultWritten-told stop before mid after same counted (inl grew) = inl (subst (λ (start : Option (List ℕ)). Grew start (after.sent outlet.Faults) (stop_text stop)) same grew)
+FaultWritten-told stop before mid after same counted (inr part) = inr (
+  subst (λ (start : Option (List ℕ)). IsAppendedPart start (after.sent outlet.Faults) (stop_text stop)) same part.0,
+  Rose-between _ _ _ _ counted (omega arith) part.1,
+)

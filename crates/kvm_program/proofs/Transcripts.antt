@@ -9,9 +9,9 @@ use Rattle.psd_base.specs.declared.line.Line.{Line}
 use Rattle.psd_base.specs.Event.{Seen, Happening, TimePasses, PortActs, PanelMoves}
 use Rattle.port_transcript.specs.PortLine.{line_text}
 use Rattle.switch_core.specs.View.{view}
-use Rattle.switch_core.specs.OnePort.{toy, line_of}
-use Rattle.switch_core.specs.StandsFor.{line_at}
-use Rattle.switch_core.proofs.Views.{toy-clock, toy-move}
+use Rattle.switch_core.specs.OnePort.{one_port_lines, line_of}
+use Rattle.switch_core.specs.Lines.{line_at}
+use Rattle.switch_core.proofs.Views.{one_port_lines-clock, one_port_lines-move}
 use Rattle.kvm_program.specs.Transcript.{lines_text, transcript_after, text_at}
 
 -- the text of one line more
@@ -24,7 +24,7 @@ step_of_act : (port tick own : ℕ) (side : Side) (act : Act) (past : List Seen)
     ≡ transcript_after port past ++ text_at port (line_at (record { tick = tick; happening = PortActs own side act }) past)
 step_of_act port tick own side act past =
     elim (eqb_tells own port) [
-      | inl same ↦ rw same.0 (lines_text-push (toy (view port past)) (line_of (view port past) tick side act)
+      | inl same ↦ rw same.0 (lines_text-push (one_port_lines (view port past)) (line_of (view port past) tick side act)
           ∙ ap (λ (p : ℕ). transcript_after port past ++ line_text (line_of (view p past) tick side act)) (sym same.1))
       | inr apart ↦ rw apart.0 (sym (append-nil (transcript_after port past)))
     ]
@@ -36,7 +36,7 @@ transcript_after-step port event past = by_happening event.tick event.happening 
       → transcript_after port (record { tick = tick; happening = happening } ∷ past)
       ≡ transcript_after port past ++ text_at port (line_at (record { tick = tick; happening = happening }) past)
   by_happening tick TimePasses =
-      ap lines_text (toy-clock port tick past) ∙ sym (append-nil (transcript_after port past))
+      ap lines_text (one_port_lines-clock port tick past) ∙ sym (append-nil (transcript_after port past))
   by_happening tick (PortActs own side act) = step_of_act port tick own side act past
   by_happening tick (PanelMoves move) =
-      ap lines_text (toy-move port tick move past) ∙ sym (append-nil (transcript_after port past))
+      ap lines_text (one_port_lines-move port tick move past) ∙ sym (append-nil (transcript_after port past))

@@ -1,5 +1,5 @@
 -- What a check of the rules answers and reports.
-use Rattle.std.specs.Prelude.{◌≡◌, ℕ, List, ◌++◌, codes, length, replicate, Option, IfErr, IsOk, Result, Ok, Err}
+use Rattle.std.specs.Prelude.{◌≡◌, ℕ, List, ◌++◌, codes, length, replicate, Option, Some, IfErr, IsOk, Result, Ok, Err}
 use Rattle.std.specs.Fmt.{decimal}
 use Rattle.psd_base.specs.declared.outlet.Input.TheVariants as input
 use Rattle.psd_base.specs.declared.outlet.Outlet.TheVariants as outlet

@@ -7,7 +7,7 @@ use Rattle.psd_base.specs.declared.outlet.Outlet.TheVariants as outlet
 use Rattle.psd_base.specs.Event.{Seen}
 use Rattle.psd_base.specs.History.{onto}
 use Rattle.switch_core.specs.Notes.{notes_at}
-use Rattle.switch_core.specs.StandsFor.{line_at}
+use Rattle.switch_core.specs.Lines.{line_at}
 use Rattle.kvm_program.specs.Log.{log_after, notes_text}
 use Rattle.kvm_program.specs.Transcript.{text_at, transcript_after}
 

@@ -6,7 +6,7 @@ use Rattle.psd_base.specs.Event.{Seen}
 use Rattle.psd_base.specs.declared.line.Line.{Line}
 use Rattle.port_transcript.specs.PortLine.{line_text}
 use Rattle.switch_core.specs.View.{view}
-use Rattle.switch_core.specs.OnePort.{toy}
+use Rattle.switch_core.specs.OnePort.{one_port_lines}
 
 -- the text of a list of lines
 abbrev pub lines_text : List Line → List ℕ
@@ -14,7 +14,7 @@ lines_text lines = flat_map line_text lines
 
 -- what the one-port switch of this port writes over a history, which is newest first
 abbrev pub transcript_after : ℕ → List Seen → List ℕ
-transcript_after port past = lines_text (toy (view port past))
+transcript_after port past = lines_text (one_port_lines (view port past))
 
 -- the same over events, which are oldest first
 abbrev pub transcript_of : ℕ → List Seen → List ℕ

@@ -3,7 +3,8 @@ ghost use Rattle.std.specs.Prelude.{◌≡◌, ◌≢◌, ℕ, ◌+◌, ◌*◌,
 ghost use Rattle.psd_base.specs.Port.{IsPort};
 ghost use Rattle.psd_base.specs.Desk.{Told};
 ghost use Rattle.capture_reader.specs.Reader.{rest_told};
-ghost use Rattle.switch_core.specs.StandsFor.{StandsFor, port_total, line_at};
+ghost use Rattle.switch_core.specs.StandsFor.{StandsFor, port_total};
+ghost use Rattle.switch_core.specs.Lines.{line_at};
 ghost use Rattle.switch_core.specs.Notes.{notes_at};
 ghost use Rattle.psd_base.specs.History.{number_of, onto};
 ghost use Rattle.kvm_program.specs.Log.{is_leave, is_refusal};

@@ -109,6 +109,7 @@ fn obey<D: Desk>(alloc: Global, words: &Words, desk: &mut D) -> Result<Summary, 
     ensures check { words.now ≡ words_of Command.Check → Checks result (D.told desk.old) (D.told desk.new) }
     ensures unknown { ((command : Command) → words.now ≢ words_of command) → (result ≡ Err Stop.Usage) × (desk.new ≡ desk.old) }
     ensures faults { (D.told desk.new).sent Outlet.Faults ≡ (D.told desk.old).sent Outlet.Faults }
+    ensures counts { (to : Outlet) → (D.told desk.old).write_faults to ≤ (D.told desk.new).write_faults to }
 {
     match Command::read(words) {
         Some(Command::Replay) => replay(alloc, desk),

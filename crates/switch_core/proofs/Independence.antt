@@ -5,9 +5,9 @@ use Rattle.psd_base.specs.declared.act.Side.{Side}
 use Rattle.psd_base.specs.Event.{Happening, TimePasses, PortActs, PanelMoves, Seen}
 use Rattle.selector.specs.Moments.{Moment, Moved, Ticked}
 use Rattle.switch_core.specs.Independence.{is_act, is_act_elsewhere, without, LogIgnoresActs, SameViewSameLines, ViewIgnoresOthers}
-use Rattle.switch_core.specs.Moments.{moments_in}
+use Rattle.switch_core.specs.FrontMoments.{moments_in}
 use Rattle.switch_core.specs.Notes.{notes_at, notes_of}
-use Rattle.switch_core.specs.OnePort.{toy}
+use Rattle.switch_core.specs.OnePort.{one_port_lines}
 use Rattle.switch_core.specs.View.{Item, Own, view}
 
 -- health and selection are found from the same moments
@@ -63,4 +63,4 @@ pub view_ignores_others : ViewIgnoresOthers
 view_ignores_others port past = view_without_others port past
 
 pub same_view_same_lines : SameViewSameLines
-same_view_same_lines port past other same = ap toy same
+same_view_same_lines port past other same = ap one_port_lines same

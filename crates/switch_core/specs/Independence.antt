@@ -2,7 +2,7 @@
 use Rattle.std.specs.Prelude.{◌≡◌, ℕ, Bool, true, false, not, ◌==◌, List, [], ◌∷◌, if◌then◌else◌}
 use Rattle.psd_base.specs.Event.{Happening, TimePasses, PortActs, PanelMoves, Seen}
 use Rattle.switch_core.specs.Notes.{notes_at}
-use Rattle.switch_core.specs.OnePort.{toy}
+use Rattle.switch_core.specs.OnePort.{one_port_lines}
 use Rattle.switch_core.specs.View.{view}
 
 -- an act of a computer
@@ -32,4 +32,4 @@ ViewIgnoresOthers = (port : ℕ) (past : List Seen) → view port (without (is_a
 
 -- Where the same concerns a port, its computer is answered the same.
 abbrev pub SameViewSameLines : Type 0
-SameViewSameLines = (port : ℕ) (past other : List Seen) → view port past ≡ view port other → toy (view port past) ≡ toy (view port other)
+SameViewSameLines = (port : ℕ) (past other : List Seen) → view port past ≡ view port other → one_port_lines (view port past) ≡ one_port_lines (view port other)

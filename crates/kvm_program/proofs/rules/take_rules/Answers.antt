@@ -18,4 +18,4 @@ pub returns-clause-stop : goal.returns-clause-stop
 returns-clause-stop g c =
     let left = (g.D.Desk.told c.args.desk.now).left input.Rules in
     let read = subst (λ (items : List ℕ). IfSome left (λ all. items ≡ front_of all)) (sym c.as_slice.ensures.value) c.in_ok-bytes.ensures.bytes in
-    IfErr-weaker c.judge.result _ _ (λ stop is. RulesStop-judged (g.D.Desk.told c.args.desk.now) _ c.as_slice.result.now stop read is) c.judge.ensures.stop
+    IfErr-weaker c.judge.result _ _ (λ stop is. RulesStop-judged (g.D.Desk.told c.args.desk.now) (g.D.Desk.told c.read_rule_file.new.desk) c.as_slice.result.now stop read is) c.judge.ensures.stop

@@ -1,5 +1,5 @@
 -- The rules are taken, and then the events are replayed.
-use Rattle.std.proofs.Common.{◌≡◌, List, ℕ, Option, Some, IsOk, subst}
+use Rattle.std.proofs.Common.{◌≡◌, List, ℕ, Option, Some, IsOk, refl, subst}
 use Rattle.std.specs.Prelude.{IfSome, Ok}
 use Rattle.std.proofs.lemmas.Result.{err_from_is_err_and}
 use Rattle.psd_base.specs.declared.outlet.Input.TheVariants as input

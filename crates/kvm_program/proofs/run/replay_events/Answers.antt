@@ -1,10 +1,9 @@
 -- What the reader has to come is the run that the desk tells.
-use Rattle.std.proofs.Common.{◌≡◌, ℕ, Some, ap, ◌∙◌, sym, refl}
+use Rattle.std.proofs.Common.{◌≡◌, Some, ◌∙◌, refl}
 use Rattle.std.proofs.lemmas.Result.{err_from_is_err_and}
 use Rattle.capture_reader.specs.Reader.{rest_told}
-use Rattle.kvm_program.specs.Replay.{Serves}
 use Rattle.kvm_program.specs.Run.{Run, run_told}
-use Rattle.kvm_program.proofs.Commands.{Serves-none, Serves-between}
+use Rattle.kvm_program.proofs.Commands.{Serves-none, Serves-between, Serves-ports}
 use Rattle.kvm_program.proofs.Told.{schedule_of_told, ports_of_told}
 use Rattle.kvm_program.proofs.run.replay_events.Goals as goal
 use Rattle.kvm_program.proofs.run.replay_events.Goals.{In_ok-reader}
@@ -30,11 +29,11 @@ returns-in_err-summary-clause-serves g c =
     rw (p.1, p.2) (λ run told.
     let serves = c.in_err-summary.ensures.serves run.schedule (coming g at run told) in
     Serves-between _ run (g.D.Desk.told c.args.desk.now) (g.D.Desk.told c.new-2.new.desk) (g.D.Desk.told c.run.new.desk) (g.D.Desk.told c.run.new.desk)
-    (λ to. c.in_ok-reader.ensures.desk.outlets to (λ e. e)) (λ to apart. refl) (rw sym (ports g at run told) serves))
+    (λ to. c.in_ok-reader.ensures.desk.outlets to (λ e. e)) (λ to apart. refl) (Serves-ports _ run _ (g.D.Desk.told c.new-2.new.desk) (g.D.Desk.told c.run.new.desk) (ports g at run told) serves))
 
 pub returns-clause-serves : goal.returns-clause-serves
 returns-clause-serves g c = λ run told.
     let at = (goal.at.returns-clause-serves g c).In_ok-reader in
     let serves = c.in_ok-summary.ensures.serves run.schedule (coming g at run told) in
     Serves-between _ run (g.D.Desk.told c.args.desk.now) (g.D.Desk.told c.new-2.new.desk) (g.D.Desk.told c.run.new.desk) (g.D.Desk.told c.run.new.desk)
-    (λ to. c.in_ok-reader.ensures.desk.outlets to (λ e. e)) (λ to apart. refl) (rw sym (ports g at run told) serves)
+    (λ to. c.in_ok-reader.ensures.desk.outlets to (λ e. e)) (λ to apart. refl) (Serves-ports _ run _ (g.D.Desk.told c.new-2.new.desk) (g.D.Desk.told c.run.new.desk) (ports g at run told) serves)

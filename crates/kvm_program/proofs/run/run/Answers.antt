@@ -2,7 +2,9 @@
 use Rattle.std.proofs.Common.{ℕ, ap, ◌∙◌, subst}
 use Rattle.std.proofs.lemmas.Result.{err_from_is_err_and}
 use Rattle.psd_base.specs.declared.outlet.Outlet.TheVariants as outlet
-use Rattle.kvm_program.specs.Report.{summary_of}
+use Rattle.psd_base.specs.declared.summary.Summary.{Summary}
+use Rattle.psd_base.specs.Desk.{IsAppendedPart}
+use Rattle.kvm_program.specs.Report.{report_text, summary_of}
 use Rattle.kvm_program.proofs.Commands.{Serves-stopped, Serves-unreported, Serves-all}
 use Rattle.kvm_program.proofs.run.run.Goals as goal
 
@@ -21,7 +23,8 @@ returns-in_err-write_report-clause-serves g c =
     let same = c.summary-summary.ensures.counts schedule.events finished.served finished.counted
     ∙ ap (λ (ports : ℕ). summary_of ports schedule.events) c.ports-ports.ensures.value in
     Serves-unreported _ (g.D.Desk.told c.args.desk.now) (g.D.Desk.told c.serve_events.new.desk) (g.D.Desk.told c.write_report.new.desk) finished.written
-    (c.serve_events.ensures.only.outlets outlet.Report (λ e. e)) c.write_report.ensures.only (rw sym same c.in_err-write_report.ensures.wrote))
+    (c.serve_events.ensures.only.outlets outlet.Report (λ e. e)) c.write_report.ensures.only (subst (λ (s : Summary). IsAppendedPart ((g.D.Desk.told c.serve_events.new.desk).sent outlet.Report) ((g.D.Desk.told c.write_report.new.desk).sent outlet.Report) (report_text s))
+    same c.in_err-write_report.ensures.wrote))
 
 pub returns-clause-serves : goal.returns-clause-serves
 returns-clause-serves g c = λ schedule is.
