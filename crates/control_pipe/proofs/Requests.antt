@@ -4,6 +4,7 @@ use Rattle.std.specs.Prelude.{◌==◌, nat_lt, option_map, unwrap_or}
 use Rattle.std.proofs.lemmas.Bool.{cond_both, eqb-true, ltb-false}
 use Rattle.psd_base.specs.History.{or_else, newest}
 use Rattle.psd_base.specs.declared.setup.Setup.{Setup}
+use Rattle.control_pipe.specs.declared.codes.TheConstants.{FROM_DEVICE, FROM_INTERFACE, CLASS_TO_INTERFACE, CLASS_FROM_INTERFACE, GET_DESCRIPTOR}
 use Rattle.control_pipe.specs.declared.registers.Registers.{Registers}
 use Rattle.control_pipe.specs.declared.request.Endpoint.TheVariants.{First, Second}
 use Rattle.control_pipe.specs.declared.request.Request.{Request}
@@ -46,10 +47,10 @@ short_named setup (Some named) short = short
 
 short_request : (setup : Setup) → ShortRequest setup (request_of setup)
 short_request setup =
-    cond_both (setup.kind == 0xa1) _ _ (ShortRequest setup) (λ _. tt) (λ _.
-    cond_both (setup.kind == 0x21) _ _ (ShortRequest setup) (λ _. tt) (λ _.
-    cond_both (is_request 0x80 0x06 setup) _ _ (ShortRequest setup) (λ _. tt) (λ _.
-    cond_both (is_request 0x81 0x06 setup) _ _ (ShortRequest setup) (λ _. tt) (λ _.
+    cond_both (setup.kind == CLASS_FROM_INTERFACE) _ _ (ShortRequest setup) (λ _. tt) (λ _.
+    cond_both (setup.kind == CLASS_TO_INTERFACE) _ _ (ShortRequest setup) (λ _. tt) (λ _.
+    cond_both (is_request FROM_DEVICE GET_DESCRIPTOR setup) _ _ (ShortRequest setup) (λ _. tt) (λ _.
+    cond_both (is_request FROM_INTERFACE GET_DESCRIPTOR setup) _ _ (ShortRequest setup) (λ _. tt) (λ _.
     short_named setup (standard_of setup) (short_standard setup)))))
 
 short_at : (setup : Setup) (o : Option Request) (named : Standard) → o ≡ Some (request.Standard named) → ShortRequest setup o

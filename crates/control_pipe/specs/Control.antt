@@ -64,7 +64,7 @@ continued act session = continued_transfer act session.completed session.transfe
   continued_transfer act completed None = record { completed = completed; transfer = None }
   continued_transfer act completed (Some transfer) = record {
     completed = completed_with
-    (if is_completed_by transfer act then request_of transfer.setup else None) completed;
+        (if is_completed_by transfer act then request_of transfer.setup else None) completed;
     transfer = Some (record transfer { acts = act ∷ transfer.acts });
   }
 

@@ -11,7 +11,8 @@ use Rattle.control_pipe.specs.declared.request.Request.{Request}
 use Rattle.control_pipe.specs.declared.request.Request.TheVariants as request
 use Rattle.control_pipe.specs.declared.request.Standard.{Standard}
 use Rattle.control_pipe.specs.declared.request.Standard.TheVariants as standard
-use Rattle.control_pipe.specs.declared.request.TheConstants.{TO_HOST, TO_DEVICE, TO_INTERFACE, TO_ENDPOINT, FROM_DEVICE, FROM_INTERFACE, FROM_ENDPOINT, CLASS_TO_INTERFACE, CLASS_FROM_INTERFACE, GET_STATUS, CLEAR_FEATURE, SET_FEATURE, SET_ADDRESS, GET_DESCRIPTOR, GET_CONFIGURATION, SET_CONFIGURATION, GET_INTERFACE, SET_INTERFACE, ENDPOINT_HALT, ADDRESSES, CONFIGURATIONS}
+use Rattle.control_pipe.specs.declared.codes.TheConstants.{TO_HOST, TO_DEVICE, TO_INTERFACE, TO_ENDPOINT, FROM_DEVICE, FROM_INTERFACE, FROM_ENDPOINT, CLASS_TO_INTERFACE, CLASS_FROM_INTERFACE, GET_STATUS, CLEAR_FEATURE, SET_FEATURE, SET_ADDRESS, GET_DESCRIPTOR, GET_CONFIGURATION, SET_CONFIGURATION, GET_INTERFACE, SET_INTERFACE, ENDPOINT_HALT}
+use Rattle.control_pipe.specs.declared.request.TheConstants.{ADDRESSES, CONFIGURATIONS}
 
 -- what the device's function has for a setup
 pub record Offer : Type 0 where

@@ -1,6 +1,7 @@
 //! Control transfers at endpoint 0 of an emulated device (USB 2.0, 8.5.3 and chapter 9).
 #![tactic(auto)]
 
+pub mod codes;
 pub mod function;
 pub mod pipe;
 pub mod reaction;

@@ -2,49 +2,13 @@
 ghost use Rattle.std.specs.Prelude.{◌≡◌, ◌+◌, ◌&&◌, ◌==◌, nat_lt};
 ghost use Rattle.control_pipe.specs.Requests.{when, interrupt_endpoint, interface_endpoint, endpoint_number, of_device, of_interface, endpoint_status, halt_of, address_to_set, configuration_to_set, interface_to_set, read_request, write_request, standard_of, request_of};
 
+use crate::codes::{
+    CLASS_FROM_INTERFACE, CLASS_TO_INTERFACE, CLEAR_FEATURE, ENDPOINT_HALT, FROM_DEVICE,
+    FROM_ENDPOINT, FROM_INTERFACE, GET_CONFIGURATION, GET_DESCRIPTOR, GET_INTERFACE, GET_STATUS,
+    SET_ADDRESS, SET_CONFIGURATION, SET_FEATURE, SET_INTERFACE, TO_DEVICE, TO_ENDPOINT, TO_HOST,
+    TO_INTERFACE,
+};
 use psd_base::setup::Setup;
-
-/// A kind of request with this bit has its data go to the host (USB 2.0, table 9-2).
-pub(crate) const TO_HOST: u8 = 0x80;
-
-// Who is asked, and which way the data go (USB 2.0, table 9-2).
-pub(crate) const TO_DEVICE: u8 = 0x00;
-
-pub(crate) const TO_INTERFACE: u8 = 0x01;
-
-pub(crate) const TO_ENDPOINT: u8 = 0x02;
-
-pub(crate) const FROM_DEVICE: u8 = 0x80;
-
-pub(crate) const FROM_INTERFACE: u8 = 0x81;
-
-pub(crate) const FROM_ENDPOINT: u8 = 0x82;
-
-pub(crate) const CLASS_TO_INTERFACE: u8 = 0x21;
-
-pub(crate) const CLASS_FROM_INTERFACE: u8 = 0xa1;
-
-// The standard requests (USB 2.0, table 9-4).
-pub(crate) const GET_STATUS: u8 = 0x00;
-
-pub(crate) const CLEAR_FEATURE: u8 = 0x01;
-
-pub(crate) const SET_FEATURE: u8 = 0x03;
-
-pub(crate) const SET_ADDRESS: u8 = 0x05;
-
-pub(crate) const GET_DESCRIPTOR: u8 = 0x06;
-
-pub(crate) const GET_CONFIGURATION: u8 = 0x08;
-
-pub(crate) const SET_CONFIGURATION: u8 = 0x09;
-
-pub(crate) const GET_INTERFACE: u8 = 0x0a;
-
-pub(crate) const SET_INTERFACE: u8 = 0x0b;
-
-/// The feature that CLEAR_FEATURE and SET_FEATURE are of, ENDPOINT_HALT (USB 2.0, table 9-6).
-pub(crate) const ENDPOINT_HALT: u16 = 0;
 
 /// The least number that is no address.
 pub(crate) const ADDRESSES: u16 = 128;

@@ -3,6 +3,10 @@ ghost use Rattle.std.specs.Prelude.{◌≡◌, ℕ, Option, None, Bool, true, fa
 ghost use Rattle.std.proofs.lemmas.Bool.{false≢true};
 ghost use Rattle.switch_core.specs.KmDescriptors.{km_descriptor, km_descriptor-short, is_get_descriptor};
 
+use control_pipe::codes::{
+    CONFIGURATION_DESCRIPTOR, DEVICE_DESCRIPTOR, FROM_DEVICE, FROM_INTERFACE, GET_DESCRIPTOR,
+    HID_DESCRIPTOR, REPORT_DESCRIPTOR,
+};
 use control_pipe::function::Function;
 use psd_base::event::Tick;
 use psd_base::packet::Packet;
@@ -57,7 +61,10 @@ pub struct KmDescriptors;
 fn asks_for(setup: &Setup, kind: u8, value: u16, index: u16) -> bool
     ensures { result ≡ is_get_descriptor kind value index setup.now }
 {
-    setup.kind == kind && setup.request == 6 && setup.value == value && setup.index == index
+    setup.kind == kind
+        && setup.request == GET_DESCRIPTOR
+        && setup.value == value
+        && setup.index == index
 }
 
 impl Function for KmDescriptors {
@@ -79,17 +86,17 @@ impl Function for KmDescriptors {
 
     #[tactic(auto, unfolding(crate::specs::KmDescriptors::km_descriptor))]
     fn descriptor(&self, setup: &Setup) -> Option<&[u8]> {
-        if asks_for(setup, 0x80, 0x0100, 0) {
+        if asks_for(setup, FROM_DEVICE, DEVICE_DESCRIPTOR, 0) {
             Some(&DEVICE)
-        } else if asks_for(setup, 0x80, 0x0200, 0) {
+        } else if asks_for(setup, FROM_DEVICE, CONFIGURATION_DESCRIPTOR, 0) {
             Some(&CONFIGURATION)
-        } else if asks_for(setup, 0x81, 0x2100, 0) {
+        } else if asks_for(setup, FROM_INTERFACE, HID_DESCRIPTOR, 0) {
             Some(&CONFIGURATION[18..27])
-        } else if asks_for(setup, 0x81, 0x2100, 1) {
+        } else if asks_for(setup, FROM_INTERFACE, HID_DESCRIPTOR, 1) {
             Some(&CONFIGURATION[43..52])
-        } else if asks_for(setup, 0x81, 0x2200, 0) {
+        } else if asks_for(setup, FROM_INTERFACE, REPORT_DESCRIPTOR, 0) {
             Some(&KEYBOARD_REPORT)
-        } else if asks_for(setup, 0x81, 0x2200, 1) {
+        } else if asks_for(setup, FROM_INTERFACE, REPORT_DESCRIPTOR, 1) {
             Some(&MOUSE_REPORT)
         } else {
             None
