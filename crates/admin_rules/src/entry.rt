@@ -33,7 +33,8 @@ fn rule_in(table: &Table) -> Option<Rule>
 
 /// The rule of the four parts; none where one is faulty.
 fn rule_from(table: &Table) -> Option<Rule>
-    ensures { result ≡ spec.rule_from (spec.part spec.plug_of (get_member (codes "plug") (table_view table.now)))
+    ensures { result ≡ spec.rule_from
+        (spec.part spec.plug_of (get_member (codes "plug") (table_view table.now)))
         (spec.part (spec.number_of 65535) (get_member (codes "vendor") (table_view table.now)))
         (spec.part (spec.number_of 65535) (get_member (codes "product") (table_view table.now)))
         (spec.part (spec.number_of 255) (get_member (codes "class") (table_view table.now))) }

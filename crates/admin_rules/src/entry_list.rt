@@ -18,7 +18,8 @@ use toml::{Table, Value};
 /// The entries of the list at a key of the root: no entry where the key is missing, no answer where it holds no array.
 pub fn entries_at<'a>(root: &'a Table, key: &str) -> Option<&'a [Value]>
     requires { HasArraysWithin u16.MAX (table_view root.now) }
-    ensures entries { option_map (λ entries. map view entries.now) result ≡ entries_of (get_member key.now (table_view root.now)) }
+    ensures entries { option_map (λ entries. map view entries.now) result
+        ≡ entries_of (get_member key.now (table_view root.now)) }
     ensures small { IfSome result (λ entries. length entries.now ≤ u16.MAX) }
 {
     match value_at(root, key) {

@@ -11,7 +11,7 @@ use Rattle.hid_report.specs.Bits.{is_numbered, report_bits}
 use Rattle.hid_report.specs.Fields.{field_of, fields}
 use Rattle.hid_report.specs.Faults.{fault_of, faults}
 use Rattle.hid_report.specs.Elements.{usage_at, last_usage, element_usages, raw_bits, counted, down_usage, down_from}
-use Rattle.hid_report.specs.Reading.{reading_of, layout_of}
+use Rattle.hid_report.specs.LayoutValue.{reading_of, layout_of}
 use Rattle.hid_report.specs.Keys.{press_all, down_usages, keys_of}
 use Rattle.hid_report.specs.Pointer.{find_element, first_element, value_in, sample_of, pointer_of}
 

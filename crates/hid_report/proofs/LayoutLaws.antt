@@ -18,7 +18,7 @@ use Rattle.hid_report.specs.Fields.{fields}
 use Rattle.hid_report.specs.Globals.{open_collections}
 use Rattle.hid_report.specs.Faults.{fault_of, faults, fault_at}
 use Rattle.hid_report.specs.Elements.{is_key_field, is_pointer_field}
-use Rattle.hid_report.specs.Reading.{Reading, reading_of, layout_of, form_of}
+use Rattle.hid_report.specs.LayoutValue.{LayoutValue, reading_of, layout_of, form_of}
 use Rattle.hid_report.specs.State.{state, form_in, refusal, Takes}
 use Rattle.hid_report.proofs.PassLaws.{table-at}
 
@@ -139,7 +139,7 @@ refused-at at past (byte ∷ bytes) cause some is = by_first (first_item (byte �
     )
 
 -- a verdict by the list of faults
-abbrev by_faults : List Item → List LayoutFault → Result Reading LayoutFault
+abbrev by_faults : List Item → List LayoutFault → Result LayoutValue LayoutFault
 by_faults past found = elim found [ [] ↦ Ok (reading_of past) | fault ∷ later ↦ Err fault ]
 
 pub refused : (bytes : List ℕ) (at : ℕ) (pass : Pass) (r : Reached bytes at pass) (cause : LayoutWhy) → at < length bytes

@@ -1,7 +1,7 @@
 -- Loops over the fields of a layout.
 use Rattle.std.proofs.Common.{◌≡◌, ℕ, ◌+◌, ◌<◌, ◌≤◌, Bool, List, [], ◌∷◌, ◌++◌, length, get_or, drop, Option, Some, None, refl, sym, ap, ◌∙◌, unwrap_or, ℤ, pos}
 use Rattle.hid_report.specs.Pointer.{find_for, first_element, value_in, counted_in}
-use Rattle.hid_report.specs.Reading.{Reading}
+use Rattle.hid_report.specs.LayoutValue.{LayoutValue}
 use Rattle.std.proofs.lemmas.List.{at_drop_more, at_drop_all}
 use Rattle.hid_report.specs.declared.field.Field.{Field}
 use Rattle.hid_report.specs.Elements.{counted}
@@ -50,7 +50,7 @@ first-later id usage fields i field h is found =
     ∙ ap (λ (o : Option ℕ). elim o [ Some k ↦ Some (record { field = field; place = k }) | None ↦ first_element id usage (drop (i + 1) fields) ]) found
 
 -- what a report says of a usage whose first element is this one
-pub value-here : (id usage : ℕ) (reading : Reading) (report : List ℕ) (fields : List Field) (numbered : Bool) (i j : ℕ) (field : Field) (o : Option ℤ)
+pub value-here : (id usage : ℕ) (reading : LayoutValue) (report : List ℕ) (fields : List Field) (numbered : Bool) (i j : ℕ) (field : Field) (o : Option ℤ)
     → fields ≡ reading.fields → numbered ≡ reading.numbered → first_element id usage fields ≡ first_element id usage (drop i fields) → i < length fields
     → field ≡ get_or fields i field → Some j ≡ find_for id usage field → o ≡ counted field numbered report j
     → unwrap_or o (pos 0) ≡ value_in id reading report usage
@@ -61,7 +61,7 @@ value-here id usage reading report fields numbered i j field o all same from h i
     ap (λ v. unwrap_or v (pos 0)) (value ∙ ap (λ b. counted field b report j) same ∙ ap (counted_in reading.numbered report) (sym first))
 
 -- a usage that no element has
-pub value-nowhere : (id usage : ℕ) (reading : Reading) (report : List ℕ) (fields : List Field) (i : ℕ)
+pub value-nowhere : (id usage : ℕ) (reading : LayoutValue) (report : List ℕ) (fields : List Field) (i : ℕ)
     → fields ≡ reading.fields → first_element id usage fields ≡ first_element id usage (drop i fields) → length fields ≤ i
     → pos 0 ≡ value_in id reading report usage
 unfolding value_in first_element

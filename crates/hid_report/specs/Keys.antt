@@ -5,7 +5,7 @@ use Rattle.psd_base.specs.KeySet.{no_keys, with_key}
 use Rattle.hid_report.specs.declared.field.Field.{Field}
 use Rattle.hid_report.specs.declared.report_form.ReportForm.{ReportForm}
 use Rattle.hid_report.specs.Elements.{is_key, is_rollover, down_in}
-use Rattle.hid_report.specs.Reading.{Reading}
+use Rattle.hid_report.specs.LayoutValue.{LayoutValue}
 
 -- the set with this usage, if it is one that is passed on
 abbrev pub press : List Bool → ℕ → List Bool
@@ -37,7 +37,7 @@ rolls_over_for id numbered report field =
 
 -- The keys of a report: the usages that are passed on of the elements that are down. None where there is no
 -- usable key field, where the bytes aren't a key report, or where the keyboard can't tell its keys.
-unfoldable pub keys_of : Reading → List ℕ → Option (List Bool)
+unfoldable pub keys_of : LayoutValue → List ℕ → Option (List Bool)
 keys_of reading report = elim reading.keys [
   | None ↦ None
   | Some form ↦

@@ -6,7 +6,7 @@ pub mod Fields
 pub mod Faults
 pub mod State
 pub mod Elements
-pub mod Reading
+pub mod LayoutValue
 pub mod Wanted
 pub mod Keys
 pub mod Pointer

@@ -5,7 +5,7 @@ use Rattle.hid_report.specs.declared.field.Field.{Field}
 use Rattle.hid_report.specs.declared.usage.Span.{Span}
 use Rattle.hid_report.specs.Elements.{element_usage, takes, counted, is_zero}
 use Rattle.hid_report.specs.Keys.{is_report}
-use Rattle.hid_report.specs.Reading.{Reading}
+use Rattle.hid_report.specs.LayoutValue.{LayoutValue}
 
 abbrev pub is_usage : ℕ → Option ℕ → Bool
 is_usage wanted None = false
@@ -40,15 +40,15 @@ counted_in numbered report None = None
 counted_in numbered report (Some element) = counted element.field numbered report element.place
 
 -- what a report says of a usage: 0 where no element has it or its value is out of the logical bounds
-unfoldable pub value_in : ℕ → Reading → List ℕ → ℕ → ℤ
+unfoldable pub value_in : ℕ → LayoutValue → List ℕ → ℕ → ℤ
 value_in id reading report usage =
     unwrap_or (counted_in reading.numbered report (first_element id usage reading.fields)) (pos 0)
 
 -- the weight of a button that is down
-abbrev pub button_bit : ℕ → Reading → List ℕ → ℕ → ℕ → ℕ
+abbrev pub button_bit : ℕ → LayoutValue → List ℕ → ℕ → ℕ → ℕ
 button_bit id reading report usage weight = if is_zero (value_in id reading report usage) then 0 else weight
 
-unfoldable pub sample_of : ℕ → Reading → List ℕ → Sample
+unfoldable pub sample_of : ℕ → LayoutValue → List ℕ → Sample
 sample_of id reading report = record {
   buttons =
       button_bit id reading report 0x9_0001 1
@@ -62,7 +62,7 @@ sample_of id reading report = record {
 }
 
 -- The sample of a report. None where there is no usable pointer field or the bytes aren't a pointer report.
-unfoldable pub pointer_of : Reading → List ℕ → Option Sample
+unfoldable pub pointer_of : LayoutValue → List ℕ → Option Sample
 pointer_of reading report = elim reading.pointer [
   | None ↦ None
   | Some form ↦ if is_report form reading.numbered report then Some (sample_of form.id reading report) else None

@@ -3,7 +3,7 @@ ghost use Rattle.std.specs.Prelude.{◌≡◌, List, Option, is_some};
 ghost use Rattle.std.specs.List.{list_any};
 ghost use Rattle.hid_report.specs.declared.item.Item.{Item};
 ghost use Rattle.hid_report.specs.Elements.{is_absolute_field};
-ghost use Rattle.hid_report.specs.Reading.{Reading, reading_of};
+ghost use Rattle.hid_report.specs.LayoutValue.{LayoutValue, reading_of};
 ghost use Rattle.hid_report.specs.State.{state};
 
 use crate::element::Wanted;
@@ -26,7 +26,7 @@ pub struct Layout {
 }
 
 impl Model for Layout {
-    ghost Value = { Reading };
+    ghost Value = { LayoutValue };
 
     ghost view = { λ layout. record {
       fields = layout.fields.items;

@@ -85,7 +85,9 @@ impl Pass {
 
     /// The form of the report with the first field that has what is wanted.
     pub fn form_with(&self, wanted: Wanted) -> Option<ReportForm>
-        ensures value { result ≡ option_map (λ field. form_in self.now field.id) (find (is_usable wanted) self.now.fields.items) }
+        ensures value { result
+            ≡ option_map (λ field. form_in self.now field.id)
+            (find (is_usable wanted) self.now.fields.items) }
         ensures id { IfSome result (λ form. form.id < 256) }
     {
         for field in self.fields.as_slice() {
@@ -113,7 +115,8 @@ impl Pass {
     /// far, the newest first.
     fn take(&mut self, item: Item) -> Result<(), LayoutWhy>
         ensures fault { (past : List Item) → self.old ≡ state past → result ≡ verdict (fault_of past item) }
-        ensures step { (past : List Item) → self.old ≡ state past → OnOk result (self.new ≡ state (item ∷ past)) }
+        ensures step { (past : List Item) → self.old ≡ state past
+            → OnOk result (self.new ≡ state (item ∷ past)) }
     {
         match item {
             Item::Input(flags) => self.input(flags),
@@ -228,8 +231,10 @@ impl Pass {
 
     /// Begins a collection.
     fn collection(&mut self) -> Result<(), LayoutWhy>
-        ensures fault { result ≡ verdict (if nat_lt 16 (self.old.depth + 1) then Some LayoutWhy.Depth else None) }
-        ensures step { OnOk result (self.new ≡ without_locals (record self.old { depth = self.old.depth + 1 })) }
+        ensures fault { result
+            ≡ verdict (if nat_lt 16 (self.old.depth + 1) then Some LayoutWhy.Depth else None) }
+        ensures step { OnOk result
+            (self.new ≡ without_locals (record self.old { depth = self.old.depth + 1 })) }
     {
         if self.depth >= DEPTH {
             return Err(LayoutWhy::Depth);
@@ -242,7 +247,8 @@ impl Pass {
     /// Ends a collection.
     fn end_collection(&mut self) -> Result<(), LayoutWhy>
         ensures fault { result ≡ verdict (if self.old.depth == 0 then Some LayoutWhy.Unbalanced else None) }
-        ensures step { OnOk result (self.new ≡ without_locals (record self.old { depth = self.old.depth - 1 })) }
+        ensures step { OnOk result
+            (self.new ≡ without_locals (record self.old { depth = self.old.depth - 1 })) }
     {
         if self.depth == 0 {
             return Err(LayoutWhy::Unbalanced);
@@ -299,7 +305,8 @@ impl Pass {
 
     /// Keeps the global values.
     fn push(&mut self) -> Result<(), LayoutWhy>
-        ensures fault { result ≡ verdict (if nat_lt 4 (array_vec_len self.old.saved + 1) then Some LayoutWhy.Pushes else None) }
+        ensures fault { result
+            ≡ verdict (if nat_lt 4 (array_vec_len self.old.saved + 1) then Some LayoutWhy.Pushes else None) }
         ensures step { OnOk result (self.new ≡ record self.old {
           saved = record { items = self.old.saved.items ++ self.old.current ∷ [] };
         }) }
@@ -313,9 +320,11 @@ impl Pass {
 
     /// Returns to the values at the last open Push.
     fn pop(&mut self) -> Result<(), LayoutWhy>
-        ensures fault { result ≡ verdict (if array_vec_len self.old.saved == 0 then Some LayoutWhy.Unbalanced else None) }
+        ensures fault { result
+            ≡ verdict (if array_vec_len self.old.saved == 0 then Some LayoutWhy.Unbalanced else None) }
         ensures saved { OnOk result (self.old.saved.items ≡ self.new.saved.items ++ self.new.current ∷ []) }
-        ensures rest { OnOk result (self.new ≡ record self.old { saved = self.new.saved; current = self.new.current }) }
+        ensures rest { OnOk result
+            (self.new ≡ record self.old { saved = self.new.saved; current = self.new.current }) }
     {
         match self.saved.pop() {
             None => Err(LayoutWhy::Unbalanced),
@@ -328,7 +337,9 @@ impl Pass {
 
     /// Lists a usage or a range.
     fn push_usage(&mut self, range: UsageRange) -> Result<(), LayoutWhy>
-        ensures fault { result ≡ verdict (if nat_lt 32 (array_vec_len self.old.usages + 1) then Some LayoutWhy.Usages else None) }
+        ensures fault { result
+            ≡ verdict (if nat_lt 32
+            (array_vec_len self.old.usages + 1) then Some LayoutWhy.Usages else None) }
         ensures step { OnOk result (self.new ≡ record self.old {
           usages = record { items = self.old.usages.items ++ range ∷ [] };
         }) }

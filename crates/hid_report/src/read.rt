@@ -1,6 +1,6 @@
 //! Reading a report descriptor.
 ghost use Rattle.std.specs.Prelude.{◌≡◌, ◌<◌, ◌^◌, length};
-ghost use Rattle.hid_report.specs.Reading.{layout_of};
+ghost use Rattle.hid_report.specs.LayoutValue.{layout_of};
 
 use crate::fault::{LayoutFault, LayoutWhy};
 use crate::layout::Layout;

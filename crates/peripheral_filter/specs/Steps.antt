@@ -13,7 +13,7 @@ use Rattle.usb_descriptor.specs.Fault.{config_verdict}
 use Rattle.hid_report.specs.declared.fault.LayoutWhy.{LayoutWhy}
 use Rattle.hid_report.specs.declared.fault.LayoutWhy.TheVariants as why
 use Rattle.hid_report.specs.Elements.{is_absolute_field}
-use Rattle.hid_report.specs.Reading.{Reading, layout_of}
+use Rattle.hid_report.specs.LayoutValue.{LayoutValue, layout_of}
 use Rattle.peripheral_filter.specs.declared.rule.RuleSet.{RuleSet}
 use Rattle.peripheral_filter.specs.declared.class.TheConstants.{HUB_CLASS, HID_CLASS, SMART_CARD_CLASS}
 use Rattle.peripheral_filter.specs.declared.fixed.TheConstants.{MALFORMED_DESCRIPTOR, HUB, SIZE_LIMITS, NO_INTERFACE, MALFORMED_REPORT, REPORT_LIMITS, NO_FIELD, CHANGED, ABSOLUTE_POINTER}
@@ -80,13 +80,13 @@ is_malformed why.BadId = true
 is_malformed _ = false
 
 -- No field can be used at this plug. A token has no reports.
-abbrev pub has_no_field : Plug → Reading → Bool
+abbrev pub has_no_field : Plug → LayoutValue → Bool
 has_no_field Keyboard reading = not (is_some reading.keys)
 has_no_field Mouse reading = not (is_some reading.pointer)
 has_no_field Token reading = false
 
 -- an X or Y of a mouse isn't relative
-abbrev pub is_absolute_pointer : Plug → Reading → Bool
+abbrev pub is_absolute_pointer : Plug → LayoutValue → Bool
 is_absolute_pointer Keyboard reading = false
 is_absolute_pointer Mouse reading = list_any is_absolute_field reading.fields
 is_absolute_pointer Token reading = false
@@ -96,7 +96,7 @@ abbrev pub refused_layout_rules : LayoutWhy → List (RuleName × Bool)
 refused_layout_rules cause = (MALFORMED_REPORT, is_malformed cause) ∷ (REPORT_LIMITS, not (is_malformed cause)) ∷ []
 
 -- the layout of a report descriptor
-abbrev pub read_layout_rules : Plug → Reading → List (RuleName × Bool)
+abbrev pub read_layout_rules : Plug → LayoutValue → List (RuleName × Bool)
 read_layout_rules plug reading =
     (NO_FIELD, has_no_field plug reading) ∷ (ABSOLUTE_POINTER, is_absolute_pointer plug reading) ∷ []
 

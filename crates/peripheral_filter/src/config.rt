@@ -29,8 +29,10 @@ pub fn judge_config(
     bytes: &[u8],
     before: Option<&[u8]>,
 ) -> Verdict
-    ensures verdict { result ≡ first_that_holds (config_rules plug rules.now device.now bytes.now (option_copied before.entry)) }
-    ensures first { NamesFirst (config_rules plug rules.now device.now bytes.now (option_copied before.entry)) result }
+    ensures verdict { result
+        ≡ first_that_holds (config_rules plug rules.now device.now bytes.now (option_copied before.entry)) }
+    ensures first { NamesFirst
+        (config_rules plug rules.now device.now bytes.now (option_copied before.entry)) result }
 {
     judged(plug, rules, device, bytes, before)
 }
@@ -42,7 +44,8 @@ fn judged(
     bytes: &[u8],
     before: Option<&[u8]>,
 ) -> Verdict
-    ensures { result ≡ first_that_holds (config_rules plug rules.now device.now bytes.now (option_copied before.entry)) }
+    ensures { result ≡ first_that_holds
+        (config_rules plug rules.now device.now bytes.now (option_copied before.entry)) }
 {
     match read_config(bytes) {
         Err(fault) => judge_refused(fault.why),

@@ -29,7 +29,8 @@ pub fn read_config(bytes: &[u8]) -> Result<ConfigView<'_>, DescFault>
     // said to, and none stands before it or at its place and is judged earlier.
     ensures faultless { OnOk result ((why : Why) (at : ℕ) → StandsAt bytes.now why at → ⊥) }
     ensures stands { IfErr result (λ f. StandsAt bytes.now f.why f.at) }
-    ensures first { IfErr result (λ f. (why : Why) (at : ℕ) → StandsAt bytes.now why at → ComesFirst f why at) }
+    ensures first { IfErr result
+        (λ f. (why : Why) (at : ℕ) → StandsAt bytes.now why at → ComesFirst f why at) }
 {
     judged(bytes)
 }
@@ -46,7 +47,8 @@ fn judged(bytes: &[u8]) -> Result<ConfigView<'_>, DescFault>
 
 /// The configuration descriptor and the bytes after it.
 fn split_head(bytes: &[u8]) -> Result<(&[u8], &[u8]), DescFault>
-    ensures { MatchResult result (λ p. IsHeadedBy bytes.now p.0.now p.1.now) (λ f. config_fault bytes.now ≡ Some f) }
+    ensures { MatchResult result (λ p. IsHeadedBy bytes.now p.0.now p.1.now)
+        (λ f. config_fault bytes.now ≡ Some f) }
 {
     if bytes.len() < 9 {
         return Err(DescFault {
@@ -73,7 +75,8 @@ fn split_head(bytes: &[u8]) -> Result<(&[u8], &[u8]), DescFault>
 #[tactic(auto, unfolding(crate::specs::Fault::total_fault))]
 fn check_total(bytes: &[u8]) -> Result<(), DescFault>
     requires { 9 ≤ length bytes.now }
-    ensures verdict { MatchResult result (λ _. total_fault bytes.now ≡ None) (λ f. total_fault bytes.now ≡ Some f) }
+    ensures verdict { MatchResult result (λ _. total_fault bytes.now ≡ None)
+        (λ f. total_fault bytes.now ≡ Some f) }
     ensures places { OnOk result (length bytes.now < 2 ^ 16) }
 {
     let total = u16::from_le_bytes([bytes[2], bytes[3]]);
@@ -91,7 +94,8 @@ fn tally_of(first: &[u8], others: &[u8]) -> Result<Tally, DescFault>
     requires kind { kind_of first.now ≡ CONFIGURATION }
     requires places { length first.now + length others.now < 2 ^ 16 }
     ensures { MatchResult result
-        (λ tally. (first_fault (first.now ∷ []) (descriptors_of others.now) ≡ None) × Tallies (first.now ∷ descriptors_of others.now) tally)
+        (λ tally. (first_fault (first.now ∷ []) (descriptors_of others.now) ≡ None)
+        × Tallies (first.now ∷ descriptors_of others.now) tally)
         (λ f. first_fault (first.now ∷ []) (descriptors_of others.now) ≡ Some f) }
 {
     let mut tally = Tally::new();

@@ -43,7 +43,8 @@ pub(crate) fn split_whole(bytes: &[u8]) -> (&[u8], &[u8])
 /// The first descriptor of the bytes and the bytes after it. None where the descriptor isn't whole.
 pub(crate) fn split_first(bytes: &[u8]) -> Option<(&[u8], &[u8])>
     requires { 0 < length bytes.now }
-    ensures { MatchOption result (is_whole (front_of bytes.now) ≡ false) (λ p. SplitsFirst bytes.now p.0.now p.1.now) }
+    ensures { MatchOption result (is_whole (front_of bytes.now) ≡ false)
+        (λ p. SplitsFirst bytes.now p.0.now p.1.now) }
 {
     if bytes.len() < 2 {
         return None;

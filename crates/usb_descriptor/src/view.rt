@@ -110,8 +110,10 @@ impl<'a> ConfigView<'a> {
     /// 15. Bit n stands for endpoint n (USB 2.0, section 9.6.6).
     pub fn endpoints(&self) -> (u16, u16)
         ensures sets { result ≡ (in_set self.now, out_set self.now) }
-        ensures ins { (n : ℕ) → bit_at result.0 n ≡ (if list_any (λ k. k == n) (in_numbers (descriptors_of self.now)) then 1 else 0) }
-        ensures outs { (n : ℕ) → bit_at result.1 n ≡ (if list_any (λ k. k == n) (out_numbers (descriptors_of self.now)) then 1 else 0) }
+        ensures ins { (n : ℕ) → bit_at result.0 n
+            ≡ (if list_any (λ k. k == n) (in_numbers (descriptors_of self.now)) then 1 else 0) }
+        ensures outs { (n : ℕ) → bit_at result.1 n
+            ≡ (if list_any (λ k. k == n) (out_numbers (descriptors_of self.now)) then 1 else 0) }
     {
         (self.ins, self.outs)
     }

@@ -14,7 +14,7 @@ use Rattle.hid_report.specs.Elements.{is_key_field, is_pointer_field}
 
 -- the layout: the fields in order, whether the reports have an ID byte, and the forms of the key report and
 -- of the pointer report
-pub record Reading : Type 0 where
+pub record LayoutValue : Type 0 where
   pub fields : List Field
   pub numbered : Bool
   pub keys : Option ReportForm
@@ -29,7 +29,7 @@ abbrev pub form_with : (Field → Bool) → List Item → Option ReportForm
 form_with test past = option_map (λ field. form_of past field.id) (find test (fields past))
 
 -- the layout of these items
-unfoldable pub reading_of : List Item → Reading
+unfoldable pub reading_of : List Item → LayoutValue
 reading_of past = record {
   fields = fields past;
   numbered = is_numbered past;
@@ -38,5 +38,5 @@ reading_of past = record {
 }
 
 -- the layout of a report descriptor, or its first fault
-unfoldable pub layout_of : List ℕ → Result Reading LayoutFault
+unfoldable pub layout_of : List ℕ → Result LayoutValue LayoutFault
 layout_of bytes = elim (faults [] (places 0 0 bytes)) [ [] ↦ Ok (reading_of (items bytes)) | fault ∷ later ↦ Err fault ]
