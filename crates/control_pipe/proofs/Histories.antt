@@ -1,7 +1,7 @@
 -- A pipe that stands for a history stands, after its exact step at an act, for the history with that act.
 use Rattle.std.proofs.Common.{◌≡◌, ℕ, ◌+◌, ◌/◌, ◌<◌, ◌≤◌, length, take, Bool, true, false, List, [], ◌∷◌, Option, Some, None, cond, refl, sym, ap, ◌∙◌, arith}
 use Rattle.std.specs.Prelude.{◌&&◌, ◌==◌, nat_lt, is_some, option_map}
-use Rattle.std.proofs.lemmas.Bool.{cond_both, and_parts, false≢true, eqb-true, eqb-false, ltb-false, lt-ltb}
+use Rattle.std.proofs.lemmas.Bool.{cond_both, eqb-false, ltb-false, lt-ltb}
 use Rattle.psd_base.specs.declared.setup.Setup.{Setup}
 use Rattle.psd_base.specs.declared.act.Act.{Act}
 use Rattle.psd_base.specs.declared.act.Act.TheVariants as act
@@ -10,7 +10,7 @@ use Rattle.psd_base.specs.declared.act.Answer.TheVariants as answer
 use Rattle.psd_base.specs.declared.packet.TheConstants.{PACKET_SIZE}
 use Rattle.control_pipe.specs.declared.registers.Registers.{Registers}
 use Rattle.control_pipe.specs.declared.request.Request.{Request}
-use Rattle.control_pipe.specs.Transfer.{Transfer, packets_of, Reading, Writing, NoData, form_of, has_status_in, is_completed_by, is_acked_in, all_fit, received}
+use Rattle.control_pipe.specs.Transfer.{Transfer, packets_of, Reading, Writing, NoData, form_of, has_status_in, is_completed_by, all_fit}
 use Rattle.control_pipe.specs.Requests.{Offer, when, request_of, due_for}
 use Rattle.control_pipe.specs.Registers.{registers_of}
 use Rattle.control_pipe.specs.Progress.{Progress, first_stage, begun_progress, in_answer, after_in, completion, out_answer, after_out}
