@@ -22,7 +22,7 @@ pub same_keys : (keys others : List Bool) → IsKeySet keys → IsKeySet others 
 same_keys keys others k o same =
     ext_get_or false keys others (cc (k.one_each, o.one_each)) (λ usage h. same usage (omega (arith, k.one_each)))
 
-no_keys-has : (usage : ℕ) → has_key no_keys usage ≡ false
+pub no_keys-has : (usage : ℕ) → has_key no_keys usage ≡ false
 unfolding no_keys
 no_keys-has usage =
     ⊎_elim (λ h. get_or-replicate 256 usage false false h) (λ h. get_or_past (replicate 256 false) usage false h) (cases_lt usage 256)
