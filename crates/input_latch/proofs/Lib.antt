@@ -1,0 +1,4 @@
+mod Examples
+pub mod KeyCounts
+pub mod KeyLatchLaws
+pub mod PointerLatchLaws

@@ -1,0 +1,14 @@
+pub mod Buttons
+pub mod HeldButtons
+pub mod HeldKeys
+pub mod KeyClass
+pub mod KeyHistory
+pub mod KeyLatch
+pub mod KeyLatchStands
+pub mod KeySteps
+pub mod Motion
+pub mod PointerHistory
+pub mod PointerLatch
+pub mod PointerLatchStands
+pub mod PointerSteps
+pub mod Verdict
