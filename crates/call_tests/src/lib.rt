@@ -2,4 +2,8 @@
 #![tactic(auto)]
 
 #[cfg(test)]
+mod enumerations;
+#[cfg(test)]
+mod hexadecimal;
+#[cfg(test)]
 mod latches;
