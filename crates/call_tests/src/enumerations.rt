@@ -322,7 +322,7 @@ serve 5 @keyboard | @two-config => ask 1 6 8106002200001900
 reply 1 6 0 1 => ask 1 7 8106002201004000, interface 0 F8
 reply 1 7 0 1 => refused F8, interface 1 F8, F8
 
-# a report descriptor that is a byte short, one that is a byte long, one with a fault, and one beyond a limit
+# a report descriptor that is a byte long, one with a fault, and ones beyond a limit
 keyboard
 serve 5 @keyboard | @two-config => ask 1 6 8106002200001900
 reply 1 6 0 0 @consumer 00 => ask 1 7 8106002201004000, interface 0 F5
@@ -330,7 +330,7 @@ reply 1 7 0 0 @keys => ready, interface 1 ok, ok
 keyboard
 serve 5 @keyboard | @two-config => ask 1 6 8106002200001900
 reply 1 6 0 0 25*c0 => ask 1 7 8106002201004000, interface 0 F5
-reply 1 7 0 0 64*a4 => refused F5, interface 1 F5, F5
+reply 1 7 0 0 64*a4 => refused F5, interface 1 F6, F5
 keyboard
 serve 5 @keyboard | @keyboard-config => ask 1 6 8106002200004000
 reply 1 6 0 0 32*a100 => refused F6, interface 0 F6, F6

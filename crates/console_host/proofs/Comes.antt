@@ -34,7 +34,7 @@ use Rattle.console_host.specs.Fits.{fits, misfits, asks_from, barred_from, barre
 use Rattle.console_host.specs.Judging.{device_step, head_step, configuration_step, status_rules, silence_rules, finding, lesser, least_from}
 use Rattle.console_host.specs.Plan.{Plan, Asks, IsReady, Refuses, rule_of, refusal, plan_by, goes_on, next_order, conclusion, by_interfaces, is_none, report_ask, report_asks, Found, found_at, found_by, found_notes, listed_by, refused_by, accepted_in, refused_in, refusals, interface_notes, standing_notes, descriptors_in, shape_in}
 use Rattle.console_host.specs.Machine.{number_of, setup_of, unless_refused, device_outcome, with_device, plain_outcome, head_outcome, with_configuration, configuration_notes, with_finding, finding_notes, outcome_by, outcome_at_end, turn_by, turn_outcome, turn_notes, configured_outcome, configured_notes, after_report, report_outcome, report_notes, outcome_of, judged, judged_notes, shape_of}
-use Rattle.console_host.specs.Stands.{HasRead, StepStands}
+use Rattle.console_host.specs.Stands.{HasDevice, HasRead, StepStands}
 use Rattle.console_host.proofs.Asking.{no-ask, found-number, found-few, no-barred, answered-later, found-none, next-late}
 use Rattle.console_host.proofs.Accepting.{accepted-early, refused-early, accepted-few, least-append}
 
@@ -86,7 +86,7 @@ device-turns attachment reply Accepted least accepted = record {
     plan = refl;
     order = refl;
     least = least ∙ ap (λ (rules : List RuleName). least_from None rules) (sym (refused-early attachment.plug [] reply (omega arith)));
-    stands = (refl, refl);
+    stands = record { read = refl; bytes = refl; size = refl };
   };
   accepted = accepted ∙ sym (accepted-early attachment.plug [] reply (omega arith));
   plug_is = refl;
@@ -103,22 +103,22 @@ device-turns attachment reply (Refused rule) least accepted = record {
 
 pub address-turns : (attachment : Attachment) (first reply : Reply) (device : DeviceDesc) (verdict : Verdict)
     → attachment.least ≡ least_from None (refused_in attachment.plug (first ∷ [])) → attachment.accepted.items ≡ accepted_in attachment.plug (first ∷ [])
-    → device ≡ device_of first.bytes → attachment.device ≡ first.bytes
+    → HasDevice attachment device first
     → Turns attachment.plug (first ∷ []) reply attachment attachment (rule_of verdict) (plain_outcome verdict (step.Head device)) []
-address-turns attachment first reply device Accepted least accepted fields bytes = record {
+address-turns attachment first reply device Accepted least accepted device_is = record {
   comes = record {
     none = refl;
     plan = refl;
     order = refl;
     least = least ∙ ap (λ (rules : List RuleName). least_from None rules) (sym (refused-early attachment.plug (first ∷ []) reply (omega arith)));
-    stands = (fields, bytes);
+    stands = device_is;
   };
   accepted = accepted ∙ sym (accepted-early attachment.plug (first ∷ []) reply (omega arith));
   plug_is = refl;
   known = refl;
   notes_are = early-notes attachment.plug (first ∷ []) reply (omega arith);
 }
-address-turns attachment first reply device (Refused rule) least accepted fields bytes = record {
+address-turns attachment first reply device (Refused rule) least accepted device_is = record {
   comes = refl;
   accepted = accepted ∙ sym (accepted-early attachment.plug (first ∷ []) reply (omega arith));
   plug_is = refl;
@@ -128,22 +128,22 @@ address-turns attachment first reply device (Refused rule) least accepted fields
 
 pub head-turns : (attachment : Attachment) (second first reply : Reply) (device : DeviceDesc) (verdict : Verdict)
     → attachment.least ≡ least_from None (refused_in attachment.plug (second ∷ first ∷ [])) → attachment.accepted.items ≡ accepted_in attachment.plug (second ∷ first ∷ [])
-    → device ≡ device_of first.bytes → attachment.device ≡ first.bytes
+    → HasDevice attachment device first
     → Turns attachment.plug (second ∷ first ∷ []) reply attachment attachment (rule_of verdict) (head_outcome device (unless_refused verdict (word_at reply.bytes 2))) []
-head-turns attachment second first reply device Accepted least accepted fields bytes = record {
+head-turns attachment second first reply device Accepted least accepted device_is = record {
   comes = record {
     none = refl;
     plan = refl;
     order = refl;
     least = least ∙ ap (λ (rules : List RuleName). least_from None rules) (sym (refused-early attachment.plug (second ∷ first ∷ []) reply (omega arith)));
-    stands = (fields, bytes, refl);
+    stands = (device_is, refl);
   };
   accepted = accepted ∙ sym (accepted-early attachment.plug (second ∷ first ∷ []) reply (omega arith));
   plug_is = refl;
   known = refl;
   notes_are = early-notes attachment.plug (second ∷ first ∷ []) reply (omega arith);
 }
-head-turns attachment second first reply device (Refused rule) least accepted fields bytes = record {
+head-turns attachment second first reply device (Refused rule) least accepted device_is = record {
   comes = refl;
   accepted = accepted ∙ sym (accepted-early attachment.plug (second ∷ first ∷ []) reply (omega arith));
   plug_is = refl;
@@ -154,23 +154,23 @@ head-turns attachment second first reply device (Refused rule) least accepted fi
 pub configuration-turns : (attachment : Attachment) (third second first reply : Reply) (device : DeviceDesc) (verdict : Verdict)
     → attachment.least ≡ least_from None (refused_in attachment.plug (third ∷ second ∷ first ∷ []))
     → attachment.accepted.items ≡ accepted_in attachment.plug (third ∷ second ∷ first ∷ [])
-    → device ≡ device_of first.bytes → attachment.device ≡ first.bytes
+    → HasDevice attachment device first
     → Turns attachment.plug (third ∷ second ∷ first ∷ []) reply attachment (with_configuration verdict device reply.bytes attachment) (rule_of verdict)
     (plain_outcome verdict (step.Configure (configuration_value reply.bytes))) (configuration_notes verdict attachment.plug reply.bytes)
-configuration-turns attachment third second first reply device Accepted least accepted fields bytes = record {
+configuration-turns attachment third second first reply device Accepted least accepted device_is = record {
   comes = record {
     none = refl;
     plan = refl;
     order = refl;
     least = least ∙ ap (λ (rules : List RuleName). least_from None rules) (sym (refused-early attachment.plug (third ∷ second ∷ first ∷ []) reply (omega arith)));
-    stands = record { device = bytes; configuration = refl; shape = ap (λ (d : DeviceDesc). shape_of d reply.bytes) fields; fits = refl };
+    stands = record { device = device_is.bytes; configuration = refl; size = device_is.size; shape = ap (λ (d : DeviceDesc). shape_of d reply.bytes) device_is.read; fits = refl };
   };
   accepted = accepted ∙ sym (accepted-early attachment.plug (third ∷ second ∷ first ∷ []) reply (omega arith));
   plug_is = refl;
   known = refl;
   notes_are = refl;
 }
-configuration-turns attachment third second first reply device (Refused rule) least accepted fields bytes = record {
+configuration-turns attachment third second first reply device (Refused rule) least accepted device_is = record {
   comes = refl;
   accepted = accepted ∙ sym (accepted-early attachment.plug (third ∷ second ∷ first ∷ []) reply (omega arith));
   plug_is = refl;

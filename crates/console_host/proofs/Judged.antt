@@ -52,15 +52,15 @@ judged-turns attachment rules reply step.Device [] none order least accepted few
     (device-turns attachment reply (first_that_holds (device_step attachment.known reply)) least accepted)
 judged-turns attachment rules reply (step.Address device) (first ∷ []) none order least accepted few stands =
     newly attachment rules (first ∷ []) reply (step.Address device) (status_verdict reply.status) none refl
-    (address-turns attachment first reply device (status_verdict reply.status) least accepted stands.0 stands.1)
+    (address-turns attachment first reply device (status_verdict reply.status) least accepted stands)
 judged-turns attachment rules reply (step.Head device) (second ∷ first ∷ []) none order least accepted few stands =
     newly attachment rules (second ∷ first ∷ []) reply (step.Head device) (first_that_holds (head_step reply)) none refl
-    (head-turns attachment second first reply device (first_that_holds (head_step reply)) least accepted stands.0 stands.1)
+    (head-turns attachment second first reply device (first_that_holds (head_step reply)) least accepted stands)
 judged-turns attachment rules reply (step.Configuration device total) (third ∷ second ∷ first ∷ []) none order least accepted few stands =
     newly attachment rules (third ∷ second ∷ first ∷ []) reply (step.Configuration device total) (configuration_verdict rules device total reply attachment) none
-    (ap (λ (d : DeviceDesc). first_that_holds (configuration_step attachment.plug rules d total attachment.known reply)) stands.0
-    ∙ ap (λ (t : ℕ). first_that_holds (configuration_step attachment.plug rules (device_of first.bytes) t attachment.known reply)) stands.2)
-    (configuration-turns attachment third second first reply device (configuration_verdict rules device total reply attachment) least accepted stands.0 stands.1)
+    (ap (λ (d : DeviceDesc). first_that_holds (configuration_step attachment.plug rules d total attachment.known reply)) stands.0.read
+    ∙ ap (λ (t : ℕ). first_that_holds (configuration_step attachment.plug rules (device_of first.bytes) t attachment.known reply)) stands.1)
+    (configuration-turns attachment third second first reply device (configuration_verdict rules device total reply attachment) least accepted stands.0)
 judged-turns attachment rules reply (step.Configure value) (fourth ∷ third ∷ second ∷ first ∷ []) none order least accepted few stands =
     newly attachment rules (fourth ∷ third ∷ second ∷ first ∷ []) reply (step.Configure value) (status_verdict reply.status) none refl
     (configured-turns attachment (fourth ∷ third ∷ second ∷ first ∷ []) reply (status_verdict reply.status) refl least accepted few stands)

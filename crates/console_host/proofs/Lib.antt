@@ -4,6 +4,7 @@ pub mod Asking
 pub mod Comes
 pub mod Faultless
 pub mod Judged
+pub mod Sized
 pub mod Standing
 pub mod Ticking
 pub mod Turning

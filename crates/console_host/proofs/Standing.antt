@@ -9,6 +9,7 @@ use Rattle.psd_base.specs.declared.console.Plug.{Plug}
 use Rattle.psd_base.specs.declared.console.RuleName.{RuleName}
 use Rattle.psd_base.specs.declared.console.Note.{Note}
 use Rattle.psd_base.specs.declared.console.Order.TheVariants as order
+use Rattle.usb_descriptor.specs.declared.device.DeviceDesc.{DeviceDesc}
 use Rattle.peripheral_filter.specs.declared.rule.RuleSet.{RuleSet}
 use Rattle.console_host.specs.declared.attachment.Attachment.{Attachment}
 use Rattle.console_host.specs.declared.descriptors.Descriptors.{Descriptors}
@@ -27,7 +28,7 @@ use Rattle.console_host.specs.Replies.{Reply, answered}
 use Rattle.console_host.specs.Plan.{Plan, Asks, IsReady, Refuses, plan, plan_by, refusal, accepted_in, notes_of, standing_notes, device_notes, descriptors_in, shape_in}
 use Rattle.console_host.specs.Machine.{number_of, setup_of, outcome_of, judged, judged_notes, with_known, settled, settled_notes, settled_next, awaited, answered_with, answered_next, answered_notes, is_overdue}
 use Rattle.console_host.specs.Lives.{Life, Standing, plan_of, asks, is_ready, is_waiting, counts, with_reply, newly_accepted, after_counted, after_reply, after_tick, is_silent, is_silent_in, new_life, next_by, next_in, notes_in}
-use Rattle.console_host.specs.Stands.{HasRead, StepStands, WaitsFor, IsAccepted, HasEnded, PhaseStands, StandsAt}
+use Rattle.console_host.specs.Stands.{HasDevice, HasRead, StepStands, WaitsFor, IsAccepted, HasEnded, PhaseStands, StandsAt}
 use Rattle.console_host.proofs.Comes.{GoesOn, IsDone, Comes, Turns}
 use Rattle.console_host.proofs.Judged.{judged-turns}
 
@@ -52,13 +53,16 @@ waiting plug rules life kept h = ap (λ (b : Bool). not b && asks (plan_of plug 
 
 -- what is read doesn't depend on the phase
 read-phase : (plug : Plug) (attachment : Attachment) (at : Phase) (replies : List Reply) → HasRead plug attachment replies → HasRead plug (record attachment { phase = at }) replies
-read-phase plug attachment at replies read = record { device = read.device; configuration = read.configuration; shape = read.shape; fits = read.fits }
+read-phase plug attachment at replies read = record { device = read.device; configuration = read.configuration; size = read.size; shape = read.shape; fits = read.fits }
+
+device-phase : (attachment : Attachment) (at : Phase) (device : DeviceDesc) (first : Reply) → HasDevice attachment device first → HasDevice (record attachment { phase = at }) device first
+device-phase attachment at device first has = record { read = has.read; bytes = has.bytes; size = has.size }
 
 step-phase : (plug : Plug) (attachment : Attachment) (at : Phase) (asked : Step) (replies : List Reply) → StepStands plug attachment asked replies → StepStands plug (record attachment { phase = at }) asked replies
 step-phase plug attachment at step.Device [] stands = stands
-step-phase plug attachment at (step.Address device) (first ∷ []) stands = stands
-step-phase plug attachment at (step.Head device) (second ∷ first ∷ []) stands = stands
-step-phase plug attachment at (step.Configuration device total) (third ∷ second ∷ first ∷ []) stands = stands
+step-phase plug attachment at (step.Address device) (first ∷ []) stands = device-phase attachment at device first stands
+step-phase plug attachment at (step.Head device) (second ∷ first ∷ []) stands = device-phase attachment at device first stands
+step-phase plug attachment at (step.Configuration device total) (third ∷ second ∷ first ∷ []) stands = (device-phase attachment at device first stands.0, stands.1)
 step-phase plug attachment at (step.Configure value) (fourth ∷ third ∷ second ∷ first ∷ []) stands = read-phase plug attachment at (fourth ∷ third ∷ second ∷ first ∷ []) stands
 step-phase plug attachment at (step.Report ask) replies stands = (read-phase plug attachment at replies stands.0, stands.1, stands.2, stands.3)
 step-phase plug attachment at asked replies stands = absurd stands
@@ -122,14 +126,14 @@ ready-with attachment after_it rules accepted life None has is plugs interfaces 
           ∙ ap (λ (first : Option Descriptors). or_else first (newly_accepted attachment.plug rules life)) is;
       accepted = interfaces;
       few = few;
-      life = record { plan = plan; shape = read.shape };
+      life = record { plan = plan; shape = read.shape; size = read.size };
     }
 ready-with attachment after_it rules accepted life (Some first) has is plugs interfaces few plan read = record {
   plug_is = plugs;
   known = has ∙ ap (λ (d : Option Descriptors). or_else d (newly_accepted attachment.plug rules life)) is;
   accepted = interfaces;
   few = few;
-  life = record { plan = plan; shape = read.shape };
+  life = record { plan = plan; shape = read.shape; size = read.size };
 }
 
 -- the life after a reply that counts

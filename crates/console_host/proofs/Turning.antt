@@ -44,6 +44,7 @@ read-later plug attachment earlier reply h read =
     record {
       device = read.device ∙ sym device;
       configuration = read.configuration ∙ sym configuration;
+      size = read.size ∙ ap (λ (d : List ℕ). (device_of d).max0) (sym device);
       shape =
           read.shape
           ∙ ap (λ (d : List ℕ). shape_of (device_of d) (answered CONFIGURATION earlier)) (sym device)
@@ -168,7 +169,7 @@ finding-turns attachment earlier reply ask (Ok layout) late number small least a
     let reads : HasRead attachment.plug attachment (reply ∷ earlier) = read-later attachment.plug attachment earlier reply (omega arith) read in
     let turns : Turns attachment.plug earlier reply attachment pushed None (turn_outcome pushed ask.number) (finding_notes attachment.plug ask.interface (Ok layout) ++ turn_notes pushed ask.number) = record {
       comes = turn-comes pushed (reply ∷ earlier) ask.number (omega arith) (omega arith)
-          (record { device = reads.device; configuration = reads.configuration; shape = reads.shape; fits = reads.fits }) accepts
+          (record { device = reads.device; configuration = reads.configuration; size = reads.size; shape = reads.shape; fits = reads.fits }) accepts
           (least ∙ ap (λ (rules : List RuleName). least_from None rules) refuses) few;
       accepted = accepts;
       plug_is = refl;
@@ -187,7 +188,7 @@ finding-turns attachment earlier reply ask (Err rule) late number small least ac
     let reads : HasRead attachment.plug attachment (reply ∷ earlier) = read-later attachment.plug attachment earlier reply (omega arith) read in
     record {
       comes = turn-comes worse (reply ∷ earlier) ask.number (omega arith) (omega arith)
-          (record { device = reads.device; configuration = reads.configuration; shape = reads.shape; fits = reads.fits }) accepts leasts few;
+          (record { device = reads.device; configuration = reads.configuration; size = reads.size; shape = reads.shape; fits = reads.fits }) accepts leasts few;
       accepted = accepts;
       plug_is = refl;
       known = refl;

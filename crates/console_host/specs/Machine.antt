@@ -85,7 +85,7 @@ device_outcome (Ok device) = outcome.Ask (step.Address device)
 device_outcome (Err rule) = outcome.Refused rule
 
 abbrev pub with_device : Result DeviceDesc RuleName → List ℕ → Attachment → Attachment
-with_device (Ok device) bytes attachment = record attachment { device = bytes }
+with_device (Ok device) bytes attachment = record attachment { device = bytes; size = device.max0 }
 with_device (Err rule) bytes attachment = attachment
 
 -- what a reply whose bytes aren't read comes to

@@ -1,6 +1,7 @@
 -- What an attachment stands for: the calls that were made on it, newest first.
 use Rattle.std.specs.Prelude.{◌≡◌, ℕ, ◌+◌, ◌≤◌, Bool, true, false, List, [], ◌∷◌, length, Option, Some, None}
 use Rattle.psd_base.specs.declared.console.Plug.{Plug}
+use Rattle.usb_descriptor.specs.declared.device.DeviceDesc.{DeviceDesc}
 use Rattle.usb_descriptor.specs.Device.{word_at, device_of}
 use Rattle.usb_descriptor.specs.View.{configuration_value}
 use Rattle.peripheral_filter.specs.declared.rule.RuleSet.{RuleSet}
@@ -22,16 +23,23 @@ use Rattle.console_host.specs.Lives.{Call, Life, Standing, standing, plan_of, is
 pub record HasRead (plug : Plug) (attachment : Attachment) (replies : List Reply) : Type 0 where
   pub device : attachment.device ≡ answered DEVICE replies
   pub configuration : attachment.configuration ≡ answered CONFIGURATION replies
+  pub size : attachment.size ≡ (device_of (answered DEVICE replies)).max0
   pub shape : attachment.shape ≡ shape_in replies
   pub fits : attachment.fits.items ≡ fits plug (answered CONFIGURATION replies)
+
+-- what is kept of the device descriptor is what came first
+pub record HasDevice (attachment : Attachment) (device : DeviceDesc) (first : Reply) : Type 0 where
+  pub read : device ≡ device_of first.bytes
+  pub bytes : attachment.device ≡ first.bytes
+  pub size : attachment.size ≡ (device_of first.bytes).max0
 
 -- the step is that after the replies
 abbrev pub StepStands : Plug → Attachment → Step → List Reply → Type 0
 StepStands plug attachment step.Device [] = Unit {0}
-StepStands plug attachment (step.Address device) (first ∷ []) = (device ≡ device_of first.bytes) × (attachment.device ≡ first.bytes)
-StepStands plug attachment (step.Head device) (second ∷ first ∷ []) = (device ≡ device_of first.bytes) × (attachment.device ≡ first.bytes)
+StepStands plug attachment (step.Address device) (first ∷ []) = HasDevice attachment device first
+StepStands plug attachment (step.Head device) (second ∷ first ∷ []) = HasDevice attachment device first
 StepStands plug attachment (step.Configuration device total) (third ∷ second ∷ first ∷ []) =
-    (device ≡ device_of first.bytes) × (attachment.device ≡ first.bytes) × (total ≡ word_at third.bytes 2)
+    HasDevice attachment device first × (total ≡ word_at third.bytes 2)
 StepStands plug attachment (step.Configure value) (fourth ∷ third ∷ second ∷ first ∷ []) =
     HasRead plug attachment (fourth ∷ third ∷ second ∷ first ∷ [])
 StepStands plug attachment (step.Report ask) replies =
@@ -53,6 +61,7 @@ pub record WaitsFor (plug : Plug) (rules : RuleSet) (attachment : Attachment) (n
 pub record IsAccepted (plug : Plug) (rules : RuleSet) (attachment : Attachment) (life : Life) : Type 0 where
   pub plan : plan_of plug rules life ≡ IsReady
   pub shape : attachment.shape ≡ shape_in life.replies
+  pub size : attachment.size ≡ (shape_in life.replies).max0
 
 -- the peripheral was refused, or its order given up
 pub record HasEnded (plug : Plug) (rules : RuleSet) (life : Life) : Type 0 where

@@ -1,5 +1,6 @@
 //! The enumeration of one peripheral.
-ghost use Rattle.std.specs.Prelude.{◌≡◌, ℕ, ◌+◌, ◌≤◌, ◌++◌, List, [], ◌∷◌, length, MatchOption, option_copied};
+ghost use Rattle.std.specs.Prelude.{◌≡◌, ℕ, ◌+◌, ◌≤◌, ◌++◌, List, [], ◌∷◌, length, IfSome, IsTrue, MatchOption, option_copied};
+ghost use Rattle.peripheral_filter.specs.Steps.{is_packet_size};
 ghost use Rattle.psd_base.specs.declared.console.Plug.{Plug};
 ghost use Rattle.peripheral_filter.specs.declared.rule.RuleSet.{RuleSet};
 ghost use Rattle.console_host.specs.declared.fit.TheConstants.{INTERFACES_MAX};
@@ -21,6 +22,7 @@ use crate::head::judge_head;
 use crate::interface::{Interface, layout_of};
 use crate::next::{Next, SILENCE};
 use crate::order::CONFIGURE;
+use crate::packet_size::PacketSize;
 use crate::rank::lesser;
 use crate::report::judge_report;
 use crate::rules::SILENT;
@@ -56,6 +58,7 @@ pub struct Attachment {
     device: Bytes<DEVICE_SIZE>,
     /// The configuration of the present life.
     configuration: Block,
+    size: PacketSize,
     shape: Shape,
     fits: Fits,
     /// The interfaces that are accepted in the present life.
@@ -79,6 +82,7 @@ impl Attachment {
             phase: Phase::Vacant,
             device: Bytes::new(),
             configuration: Block::new(),
+            size: PacketSize::new(8),
             shape: NO_SHAPE,
             fits: ArrayVec::new(),
             accepted: ArrayVec::new(),
@@ -126,6 +130,7 @@ impl Attachment {
         ensures notes { (plug : Plug) (past : List Call) → AttachmentStands plug rules.now self.old past
             → notes.new.items ≡ notes_in plug rules.now life number (reply_of status bytes.now) (standing plug rules.now past).life }
         ensures ignored { result ≡ Next.Ignored → self.new ≡ self.old }
+        ensures few { length notes.new.items ≤ 2 + INTERFACES_MAX }
     {
         self.answer(rules, life, number, tick, status, bytes, notes)
     }
@@ -167,13 +172,17 @@ impl Attachment {
 
     /// What the peripheral looks like to a host. None exactly where the present life isn't ready.
     pub fn shape(&self) -> Option<Shape>
-        ensures { (plug : Plug) (rules : RuleSet) (past : List Call) → AttachmentStands plug rules self.now past
+        ensures sized { IfSome result (λ shape. IsTrue (is_packet_size shape.max0)) }
+        ensures shape { (plug : Plug) (rules : RuleSet) (past : List Call) → AttachmentStands plug rules self.now past
             → result ≡ shape_of_life plug rules (standing plug rules past).life }
     {
         match self.phase {
             Phase::Vacant => None,
             Phase::Asking { .. } => None,
-            Phase::Ready => Some(self.shape),
+            Phase::Ready => Some(Shape {
+                max0: self.size.bytes(),
+                ..self.shape
+            }),
             Phase::Ended => None,
         }
     }
@@ -265,6 +274,7 @@ impl Attachment {
         ensures next { result ≡ answered_next (awaited life number self.old.phase) rules.now life (reply_of status bytes.now) self.old }
         ensures notes { notes.new.items ≡ answered_notes (awaited life number self.old.phase) rules.now (reply_of status bytes.now) self.old }
         ensures few { length self.old.fits.items ≤ INTERFACES_MAX → length self.new.fits.items ≤ INTERFACES_MAX }
+        ensures few_notes { length notes.new.items ≤ 2 + INTERFACES_MAX }
     {
         match self.awaited(life, number) {
             None => Next::Ignored,
@@ -313,6 +323,7 @@ impl Attachment {
         match judge_device(&self.known, status, bytes) {
             Ok(device) => {
                 self.device = Bytes::from_slice(bytes);
+                self.size = PacketSize::new(device.max0);
                 Outcome::Ask(Step::Address(device))
             }
             Err(rule) => Outcome::Refused(rule),
@@ -474,6 +485,7 @@ impl Attachment {
         ensures after { self.new ≡ settled outcome life tick self.old }
         ensures next { result ≡ settled_next self.old.plug life outcome }
         ensures notes { notes.new.items ≡ notes.old.items ++ settled_notes self.old.plug outcome }
+        ensures few { length notes.new.items ≤ length notes.old.items + 1 }
     {
         match outcome {
             Outcome::Ask(step) => {

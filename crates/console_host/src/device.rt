@@ -1,6 +1,6 @@
 //! The device descriptor (USB 2.0, section 9.6.1).
-ghost use Rattle.std.specs.Prelude.{◌≡◌, ◌≤◌, length, option_copied, OnOk};
-ghost use Rattle.peripheral_filter.specs.Steps.{device_rules};
+ghost use Rattle.std.specs.Prelude.{◌≡◌, ◌≤◌, length, option_copied, OnOk, IfOk, IsTrue};
+ghost use Rattle.peripheral_filter.specs.Steps.{device_rules, is_packet_size};
 ghost use Rattle.peripheral_filter.specs.Verdicts.{first_that_holds};
 ghost use Rattle.usb_descriptor.specs.Device.{device_of};
 ghost use Rattle.console_host.specs.declared.descriptors.TheConstants.{DEVICE_SIZE};
@@ -23,6 +23,7 @@ pub fn judge_device(
 ) -> Result<DeviceDesc, RuleName>
     ensures reading { result ≡ device_reading before.now (reply_of status bytes.now) }
     ensures long { OnOk result (length bytes.now ≤ DEVICE_SIZE) }
+    ensures sized { IfOk result (λ device. IsTrue (is_packet_size device.max0)) }
 {
     match judge_status(status) {
         Verdict::Refused(rule) => Err(rule),
@@ -34,9 +35,11 @@ pub fn judge_device(
 }
 
 /// Judges a device descriptor, by the one that was accepted before too.
+#[tactic(auto, using(crate::proofs::Sized::sized_by))]
 fn judge_bytes(bytes: &[u8], before: Option<&[u8]>) -> Result<DeviceDesc, RuleName>
     ensures reading { result ≡ unless_refused (first_that_holds (device_rules bytes.now (option_copied before.entry))) (device_of bytes.now) }
     ensures long { OnOk result (length bytes.now ≤ DEVICE_SIZE) }
+    ensures sized { IfOk result (λ device. IsTrue (is_packet_size device.max0)) }
 {
     let device = match read_device(bytes) {
         Ok(device) => device,

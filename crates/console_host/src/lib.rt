@@ -13,6 +13,7 @@ mod head;
 mod interface;
 mod next;
 pub mod order;
+mod packet_size;
 mod rank;
 mod report;
 mod rules;
