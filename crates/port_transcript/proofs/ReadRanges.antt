@@ -20,7 +20,7 @@ use Rattle.psd_base.specs.declared.act.Answer.TheVariants as answer
 use Rattle.psd_base.specs.declared.line.Line.{Line}
 use Rattle.psd_base.specs.declared.setup.Setup.{Setup}
 use Rattle.port_transcript.specs.PortLine.{IsAct, IsAnswer, IsLine, IsPacket, IsSetup}
-use Rattle.port_transcript.specs.Reading.{act_at, answer_in, byte_of, data_in, first_word, flag_of, in_at, line_in, other_words, out_at, packet_of, setup_at, setup_in, side_of}
+use Rattle.port_transcript.specs.ReadBack.{act_at, answer_in, byte_of, data_in, first_word, flag_of, in_at, line_in, other_words, out_at, packet_of, setup_at, setup_in, side_of}
 
 -- ---- tools
 

@@ -25,7 +25,7 @@ use Rattle.psd_base.specs.declared.act.Side.TheVariants.{Km, Ua}
 use Rattle.psd_base.specs.declared.line.Line.{Line}
 use Rattle.psd_base.specs.declared.setup.Setup.{Setup}
 use Rattle.port_transcript.specs.PortLine.{IsAct, IsAnswer, IsLine, IsPacket, IsSetup, act_text, answer_text, line_text, side_text}
-use Rattle.port_transcript.specs.Reading.{act_at, answer_in, byte_of, data_in, first_word, flag_of, in_at, is_break, line_in, other_words, out_at, packet_of, setup_at, setup_in, side_of}
+use Rattle.port_transcript.specs.ReadBack.{act_at, answer_in, byte_of, data_in, first_word, flag_of, in_at, is_break, line_in, other_words, out_at, packet_of, setup_at, setup_in, side_of}
 use Rattle.port_transcript.specs.Text.{bytes_text, flag_text}
 
 -- ---- words

@@ -2,6 +2,6 @@ pub mod ConsoleLine
 pub mod LogLine
 pub mod Plug
 pub mod PortLine
-pub mod Reading
+pub mod ReadBack
 pub mod StopLine
 pub mod Text

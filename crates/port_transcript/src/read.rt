@@ -1,7 +1,7 @@
 //! Reads the lines of a port's transcript back.
 ghost use Rattle.std.specs.Prelude.{◌≡◌, ◌↔◌, IfSome, IsTrue, Some, option_map};
 ghost use Rattle.port_transcript.specs.PortLine.{IsLine, line_text};
-ghost use Rattle.port_transcript.specs.Reading.{act_at, answer_in, data_in, in_at, line_in, out_at, setup_at};
+ghost use Rattle.port_transcript.specs.ReadBack.{act_at, answer_in, data_in, in_at, line_in, out_at, setup_at};
 
 use crate::port::port_line;
 use crate::words::{byte_of, flag_of, packet_of, setup_in, side_of, split_word};
@@ -35,7 +35,7 @@ fn is_text_of(line: &Line, bytes: &[u8]) -> bool
 }
 
 /// The line that the words of these bytes give.
-#[tactic(auto, unfolding(crate::specs::Reading::line_in))]
+#[tactic(auto, unfolding(crate::specs::ReadBack::line_in))]
 fn line_in(bytes: &[u8]) -> Option<Line>
     ensures { result ≡ line_in bytes.now }
 {
@@ -55,7 +55,7 @@ fn line_in(bytes: &[u8]) -> Option<Line>
 }
 
 /// The act that the first words give, and the bytes behind it.
-#[tactic(auto, unfolding(crate::specs::Reading::act_at))]
+#[tactic(auto, unfolding(crate::specs::ReadBack::act_at))]
 fn act_at(bytes: &[u8]) -> Option<(Act, &[u8])>
     ensures { option_map (λ found. (found.0, found.1.now)) result ≡ act_at bytes.now }
 {
@@ -73,7 +73,7 @@ fn act_at(bytes: &[u8]) -> Option<(Act, &[u8])>
     }
 }
 
-#[tactic(auto, unfolding(crate::specs::Reading::setup_at))]
+#[tactic(auto, unfolding(crate::specs::ReadBack::setup_at))]
 fn setup_at(bytes: &[u8]) -> Option<(Act, &[u8])>
     ensures { option_map (λ found. (found.0, found.1.now)) result ≡ setup_at bytes.now }
 {
@@ -84,7 +84,7 @@ fn setup_at(bytes: &[u8]) -> Option<(Act, &[u8])>
     Some((Act::Setup { address, setup }, rest))
 }
 
-#[tactic(auto, unfolding(crate::specs::Reading::out_at))]
+#[tactic(auto, unfolding(crate::specs::ReadBack::out_at))]
 fn out_at(bytes: &[u8]) -> Option<(Act, &[u8])>
     ensures { option_map (λ found. (found.0, found.1.now)) result ≡ out_at bytes.now }
 {
@@ -105,7 +105,7 @@ fn out_at(bytes: &[u8]) -> Option<(Act, &[u8])>
     Some((act, rest))
 }
 
-#[tactic(auto, unfolding(crate::specs::Reading::in_at))]
+#[tactic(auto, unfolding(crate::specs::ReadBack::in_at))]
 fn in_at(bytes: &[u8]) -> Option<(Act, &[u8])>
     ensures { option_map (λ found. (found.0, found.1.now)) result ≡ in_at bytes.now }
 {
@@ -124,7 +124,7 @@ fn in_at(bytes: &[u8]) -> Option<(Act, &[u8])>
 }
 
 /// The answer that the words give.
-#[tactic(auto, unfolding(crate::specs::Reading::answer_in))]
+#[tactic(auto, unfolding(crate::specs::ReadBack::answer_in))]
 fn answer_in(bytes: &[u8]) -> Option<Answer>
     ensures { result ≡ answer_in bytes.now }
 {
@@ -144,7 +144,7 @@ fn answer_in(bytes: &[u8]) -> Option<Answer>
     }
 }
 
-#[tactic(auto, unfolding(crate::specs::Reading::data_in))]
+#[tactic(auto, unfolding(crate::specs::ReadBack::data_in))]
 fn data_in(bytes: &[u8]) -> Option<Answer>
     ensures { result ≡ data_in bytes.now }
 {

@@ -3,13 +3,13 @@
 //! A word ends before a blank or a line feed. These readers may take more than the texts of lines, as leading zeros
 //! and upper-case digits: the reader of lines refuses these.
 ghost use Rattle.std.specs.Prelude.{◌≡◌, position};
-ghost use Rattle.port_transcript.specs.Reading.{byte_of, first_word, flag_of, is_break, other_words, packet_of, setup_in, side_of};
+ghost use Rattle.port_transcript.specs.ReadBack.{byte_of, first_word, flag_of, is_break, other_words, packet_of, setup_in, side_of};
 
 use hex::FromHex;
 use psd_base::{PACKET_SIZE, Packet, Setup, Side, number_in};
 
 /// The first word, and the bytes behind it and the byte that ends it.
-#[tactic(auto, unfolding(crate::specs::Reading::first_word, crate::specs::Reading::other_words))]
+#[tactic(auto, unfolding(crate::specs::ReadBack::first_word, crate::specs::ReadBack::other_words))]
 pub(crate) fn split_word(bytes: &[u8]) -> (&[u8], &[u8])
     ensures word { result.0.now ≡ first_word bytes.now }
     ensures others { result.1.now ≡ other_words bytes.now }
@@ -30,7 +30,7 @@ fn word_end(bytes: &[u8]) -> Option<usize>
 }
 
 /// The number of one byte that decimal digits say.
-#[tactic(auto, unfolding(crate::specs::Reading::byte_of))]
+#[tactic(auto, unfolding(crate::specs::ReadBack::byte_of))]
 pub(crate) fn byte_of(word: &[u8]) -> Option<u8>
     ensures { result ≡ byte_of word.now }
 {
@@ -42,7 +42,7 @@ pub(crate) fn byte_of(word: &[u8]) -> Option<u8>
     }
 }
 
-#[tactic(auto, unfolding(crate::specs::Reading::flag_of))]
+#[tactic(auto, unfolding(crate::specs::ReadBack::flag_of))]
 pub(crate) fn flag_of(word: &[u8]) -> Option<bool>
     ensures { result ≡ flag_of word.now }
 {
@@ -55,7 +55,7 @@ pub(crate) fn flag_of(word: &[u8]) -> Option<bool>
     }
 }
 
-#[tactic(auto, unfolding(crate::specs::Reading::side_of))]
+#[tactic(auto, unfolding(crate::specs::ReadBack::side_of))]
 pub(crate) fn side_of(word: &[u8]) -> Option<Side>
     ensures { result ≡ side_of word.now }
 {
@@ -69,7 +69,7 @@ pub(crate) fn side_of(word: &[u8]) -> Option<Side>
 }
 
 /// The bytes that hexadecimal digits say; `-` says none.
-#[tactic(auto, unfolding(crate::specs::Reading::packet_of))]
+#[tactic(auto, unfolding(crate::specs::ReadBack::packet_of))]
 pub(crate) fn packet_of(word: &[u8]) -> Option<Packet>
     ensures { result ≡ packet_of word.now }
 {
@@ -87,7 +87,7 @@ pub(crate) fn packet_of(word: &[u8]) -> Option<Packet>
 }
 
 /// The setup whose eight bytes hexadecimal digits say.
-#[tactic(auto, unfolding(crate::specs::Reading::setup_in))]
+#[tactic(auto, unfolding(crate::specs::ReadBack::setup_in))]
 pub(crate) fn setup_in(word: &[u8]) -> Option<Setup>
     ensures { result ≡ setup_in word.now }
 {

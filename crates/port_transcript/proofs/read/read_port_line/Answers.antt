@@ -2,7 +2,7 @@
 use Rattle.std.proofs.Common.{◌≡◌, ℕ, true, false, List, Some, sym, ap, ◌∙◌}
 use Rattle.psd_base.specs.declared.line.Line.{Line}
 use Rattle.port_transcript.specs.PortLine.{IsLine, line_text}
-use Rattle.port_transcript.specs.Reading.{line_in}
+use Rattle.port_transcript.specs.ReadBack.{line_in}
 use Rattle.port_transcript.proofs.ReadRanges.{line_in-fits}
 use Rattle.port_transcript.proofs.ReadingLaws.{line_in-line_text, some_same}
 use Rattle.port_transcript.proofs.read.read_port_line.Goals as goal

@@ -1,7 +1,7 @@
 -- The word ends at the first blank or line feed, or where the bytes end.
 use Rattle.std.proofs.Common.{ℕ, ◌+◌, take, drop, sym, ap, ◌∙◌, arith}
 use Rattle.std.proofs.lemmas.List.{take_all, take_rest}
-use Rattle.port_transcript.specs.Reading.{first_word, is_break, other_words}
+use Rattle.port_transcript.specs.ReadBack.{first_word, is_break, other_words}
 use Rattle.port_transcript.proofs.WordEnds.{drop_past, position_found, position_missing}
 use Rattle.port_transcript.proofs.words.split_word.Goals as goal
 
