@@ -50,3 +50,7 @@ no_list = refl
 allow_first : rules_of (codes "deny = [7]\nallow = [{class = 1}, {class = 256}]\n") ≡ Err (Shape Allow 2)
 unfolding on_rules
 allow_first = refl
+
+large_vendor : rules_of (codes "[[deny]]\nvendor = 65536\n") ≡ Err (Shape Deny 1)
+unfolding on_rules
+large_vendor = refl

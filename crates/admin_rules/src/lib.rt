@@ -6,7 +6,5 @@ mod entry;
 mod entry_list;
 mod keys;
 mod read;
-#[cfg(test)]
-mod tests;
 
 pub use read::{RULES_FILE_SIZE, read_rules};

@@ -2,8 +2,24 @@
 #![tactic(auto)]
 
 #[cfg(test)]
+mod configurations;
+#[cfg(test)]
+mod control_transfers;
+#[cfg(test)]
 mod enumerations;
 #[cfg(test)]
 mod hexadecimal;
 #[cfg(test)]
 mod latches;
+#[cfg(test)]
+mod report_descriptors;
+#[cfg(test)]
+mod rule_files;
+#[cfg(test)]
+mod selections;
+#[cfg(test)]
+mod self_tests;
+#[cfg(test)]
+mod transcript_lines;
+#[cfg(test)]
+mod verdicts;

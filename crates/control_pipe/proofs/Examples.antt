@@ -68,6 +68,9 @@ get_qualifier = taken (act.Setup 0 (setup_of (0x80 ∷ 6 ∷ 0 ∷ 6 ∷ 0 ∷ 0
 unsupported_is_stalled : control_answer (get_qualifier ∷ []) (act.In 0 0 true) ≡ answer.Stall
 unsupported_is_stalled = refl
 
+unsupported_out_is_stalled : control_answer (get_qualifier ∷ []) (act.Out 0 0 true []) ≡ answer.Stall
+unsupported_out_is_stalled = refl
+
 setup_after_stall_is_acknowledged : control_answer (taken (act.Out 0 0 true []) ∷ taken (act.In 0 0 true) ∷ get_qualifier ∷ []) get_device.act ≡ answer.Ack
 setup_after_stall_is_acknowledged = refl
 

@@ -12,6 +12,3 @@ mod transfer;
 pub use function::Function;
 pub use pipe::Pipe;
 pub use reaction::{Effect, Reaction};
-
-#[cfg(test)]
-mod tests;

@@ -6,6 +6,3 @@ pub mod health_change;
 
 pub use health::Health;
 pub use health_change::{HealthChange, change_between};
-
-#[cfg(test)]
-mod tests;

@@ -18,8 +18,6 @@ mod pass;
 mod pointer;
 mod read;
 mod report_form;
-#[cfg(test)]
-mod tests;
 mod usage;
 
 pub use fault::{LayoutFault, LayoutWhy};

@@ -18,6 +18,3 @@ pub use config::{judge_config, judge_interface};
 pub use device::judge_device;
 pub use layout::judge_layout;
 pub use rule::{RULES_MAX, Rule, RuleSet, Verdict};
-
-#[cfg(test)]
-mod tests;

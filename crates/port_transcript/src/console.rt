@@ -16,9 +16,6 @@ use crate::plug::plug_name;
 use crate::text::{TEXT_SIZE, Text, append, append_bytes, append_digits, append_number};
 use psd_base::{Job, JobKind, Order, Tick};
 
-#[cfg(test)]
-mod tests;
-
 /// The most bytes that a line of the console has, its line feed included: those of a control job of `BLOCK_SIZE` bytes.
 pub const CONSOLE_LINE_SIZE: usize = 2113;
 

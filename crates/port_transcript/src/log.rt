@@ -17,9 +17,6 @@ use crate::plug::plug_name;
 use crate::text::{TEXT_SIZE, Text, append, append_number};
 use psd_base::{Note, Reason, RuleName, Tick};
 
-#[cfg(test)]
-mod tests;
-
 /// The most bytes that a line of the log has, its line feed included.
 pub const LOG_LINE_SIZE: usize = 47;
 

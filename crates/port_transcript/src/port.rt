@@ -12,9 +12,6 @@ ghost use Rattle.port_transcript.specs.PortLine.{act_text, answer_text, line_tex
 use crate::text::{TEXT_SIZE, Text, append, append_bytes, append_digits, append_number};
 use psd_base::{Act, Answer, Line, Side};
 
-#[cfg(test)]
-mod tests;
-
 /// The most bytes that a line of a port has, its line feed included.
 pub const PORT_LINE_SIZE: usize = 296;
 

@@ -7,9 +7,6 @@ use crate::port::port_line;
 use crate::words::{byte_of, flag_of, packet_of, setup_in, side_of, split_word};
 use psd_base::{Act, Answer, Line, number_in};
 
-#[cfg(test)]
-mod tests;
-
 /// The line whose text these bytes are, or `None` where they are no line's text. No two lines have one text.
 ///
 /// The words are read first, and then the bytes have to be the text of what was read: so no upper-case digit, no

@@ -24,9 +24,6 @@ ghost use Rattle.port_transcript.specs.StopLine.{capture_text, input_text, list_
 use crate::text::{TEXT_SIZE, Text, append, append_number};
 use psd_base::{CaptureFault, Input, Outlet, RuleList, RulesFault, ScriptFault, Stop};
 
-#[cfg(test)]
-mod tests;
-
 /// The most bytes that the line of a stop has, its line feed included.
 pub const STOP_LINE_SIZE: usize = 40;
 

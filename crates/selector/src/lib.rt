@@ -6,6 +6,3 @@ mod choice;
 pub mod selector;
 
 pub use selector::{HOLD, Move, Selector};
-
-#[cfg(test)]
-mod tests;

@@ -13,6 +13,3 @@ pub use config::read_config;
 pub use device::{DeviceDesc, read_device};
 pub use fault::{DescFault, DescWhy};
 pub use view::{ConfigView, InterfaceDesc};
-
-#[cfg(test)]
-mod tests;

@@ -4,15 +4,27 @@
 //! A verdict is `ok`, `F` with the number of a fixed rule, `D` with the place of a deny entry, or `A` where
 //! no allow entry matches. Bytes are hexadecimal, `17*a101` is 17 times a101, and a name with `@` stands for
 //! bytes given below. A row with `#` gives the reason for the next ones.
-ghost use Rattle.std.specs.Prelude.{◌<◌, IfSome};
-
-use super::*;
+use crate::hexadecimal::hex;
 use arrayvec::ArrayVec;
+use peripheral_filter::{
+    RULES_MAX, Rule, RuleSet, Verdict, judge_config, judge_device, judge_interface, judge_layout,
+};
 use psd_base::console::{Plug, RuleName};
 use std::alloc::{AllocError, Global};
 use std::process::Abort;
 use std::test::Fail;
 use usb_descriptor::{read_config, read_device};
+
+/// The bytes with a name.
+const NAMES: [(&str, &str); 7] = [
+    ("@keyboard", KEYBOARD),
+    ("@hub", HUB),
+    ("@token", TOKEN),
+    ("@keyboard-config", KEYBOARD_CONFIG),
+    ("@token-config", TOKEN_CONFIG),
+    ("@keys", KEYS),
+    ("@pointer", POINTER),
+];
 
 /// A keyboard of vendor 1234 and product 1, hexadecimal.
 const KEYBOARD: &str = "120100020000000834120100000100000001";
@@ -239,12 +251,12 @@ fn judged(alloc: Global, step: Step, question: &str) -> Result<Verdict, Fail> {
 fn judged_device(alloc: Global, question: &str) -> Result<Verdict, Fail> {
     match question.split_once(" | ") {
         None => {
-            let bytes = hex(alloc, question)?;
+            let bytes = hex(alloc, &NAMES, question)?;
             Ok(judge_device(bytes.as_slice(), None))
         }
         Some((reply, before)) => {
-            let bytes = hex(alloc, reply)?;
-            let before = hex(alloc, before)?;
+            let bytes = hex(alloc, &NAMES, reply)?;
+            let before = hex(alloc, &NAMES, before)?;
             Ok(judge_device(bytes.as_slice(), Some(before.as_slice())))
         }
     }
@@ -260,15 +272,15 @@ fn judged_config(alloc: Global, question: &str) -> Result<Verdict, Fail> {
         allow: entries(allow)?,
         deny: entries(deny)?,
     };
-    let device = read_device(hex(alloc, device)?.as_slice())?;
+    let device = read_device(hex(alloc, &NAMES, device)?.as_slice())?;
     match question.split_once(" | ") {
         None => {
-            let bytes = hex(alloc, question)?;
+            let bytes = hex(alloc, &NAMES, question)?;
             Ok(judge_config(plug, &rules, &device, bytes.as_slice(), None))
         }
         Some((reply, before)) => {
-            let bytes = hex(alloc, reply)?;
-            let before = hex(alloc, before)?;
+            let bytes = hex(alloc, &NAMES, reply)?;
+            let before = hex(alloc, &NAMES, before)?;
             let before = Some(before.as_slice());
             Ok(judge_config(plug, &rules, &device, bytes.as_slice(), before))
         }
@@ -278,7 +290,7 @@ fn judged_config(alloc: Global, question: &str) -> Result<Verdict, Fail> {
 fn judged_interface(alloc: Global, question: &str) -> Result<Verdict, Fail> {
     let (plug, question) = question.split_once(" | ").ok_or("no plug")?;
     let (config, place) = question.split_once(" | ").ok_or("no place")?;
-    let bytes = hex(alloc, config)?;
+    let bytes = hex(alloc, &NAMES, config)?;
     let config = read_config(bytes.as_slice()).ok().ok_or("refused")?;
     let place: u8 = place.parse()?;
     if place < config.interfaces() {
@@ -290,7 +302,7 @@ fn judged_interface(alloc: Global, question: &str) -> Result<Verdict, Fail> {
 
 fn judged_layout(alloc: Global, question: &str) -> Result<Verdict, Fail> {
     let (plug, descriptor) = question.split_once(" | ").ok_or("no plug")?;
-    let bytes = hex(alloc, descriptor)?;
+    let bytes = hex(alloc, &NAMES, descriptor)?;
     if bytes.len() < 65536 {
         Ok(judge_layout(plug_of(plug)?, bytes.as_slice()))
     } else {
@@ -338,53 +350,4 @@ fn entry(text: &str) -> Result<Rule, Fail> {
         }
     }
     Ok(rule)
-}
-
-/// One hexadecimal digit.
-fn digit(byte: u8) -> Option<u8>
-    ensures { IfSome result (λ value. value < 16) }
-{
-    match byte {
-        b'0'..=b'9' => Some(byte - b'0'),
-        b'a'..=b'f' => Some(byte - b'a' + 10),
-        _ => None,
-    }
-}
-
-/// The bytes of hexadecimal digits, two a byte.
-fn append_digits(bytes: &mut Vec<u8>, text: &str) -> Result<(), AllocError> {
-    for pair in text.as_bytes().chunks(2) {
-        if let [high, low] = pair {
-            bytes.push(digit(*high).unwrap_or(0) * 16 + digit(*low).unwrap_or(0))?;
-        }
-    }
-    Ok(())
-}
-
-/// The bytes of words of hexadecimal digits and of names, some of them repeated.
-fn hex(alloc: Global, text: &str) -> Result<Vec<u8>, Fail> {
-    let mut bytes = Vec::new(alloc);
-    for word in text.split_whitespace() {
-        let (times, unit) = word.split_once('*').unwrap_or(("1", word));
-        let times: u8 = times.parse()?;
-        for _ in 0..times {
-            for digits in named(unit).split_whitespace() {
-                append_digits(&mut bytes, digits)?;
-            }
-        }
-    }
-    Ok(bytes)
-}
-
-fn named(word: &str) -> &str {
-    match word {
-        "@keyboard" => KEYBOARD,
-        "@hub" => HUB,
-        "@token" => TOKEN,
-        "@keyboard-config" => KEYBOARD_CONFIG,
-        "@token-config" => TOKEN_CONFIG,
-        "@keys" => KEYS,
-        "@pointer" => POINTER,
-        _ => word,
-    }
 }

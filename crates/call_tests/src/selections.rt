@@ -1,7 +1,7 @@
 //! Small sessions at the panel.
-use super::*;
 use psd_base::console::Panel;
 use psd_base::port::PortId;
+use selector::{Move, Selector};
 use std::test::Fail;
 
 #[test]

@@ -4,12 +4,19 @@
 //! pointer, an absolute axis. A row `DESCRIPTOR | REPORT => KEYS ; SAMPLE` has the keys that are down in
 //! ascending order or `none`, and the buttons, X, Y and wheel; `-` where the report isn't read so. Bytes are
 //! hexadecimal, `17*a101` is 17 times a101, and a row with `#` gives the reason for the next ones.
-ghost use Rattle.std.specs.Prelude.{◌<◌, IfSome};
-
-use crate::{Layout, read_layout};
+use crate::hexadecimal::hex;
+use hid_report::{Layout, read_layout};
 use std::alloc::{AllocError, Global};
 use std::process::Abort;
 use std::test::Fail;
+
+/// The descriptors with a name.
+const NAMES: [(&str, &str); 4] = [
+    ("@keyboard", KEYBOARD),
+    ("@boot", BOOT_KEYBOARD),
+    ("@mouse", MOUSE),
+    ("@packed", PACKED_MOUSE),
+];
 
 /// A keyboard of 8 modifiers, 5 lamps and 6 keys; bounds and usages up to 0xA4.
 const KEYBOARD: &str =
@@ -331,54 +338,6 @@ fn mice(rt: HostRuntime) -> Result<(), Fail> {
     check_rows(&rt, rt.alloc(), MICE)
 }
 
-/// One hexadecimal digit.
-fn digit(byte: u8) -> Option<u8>
-    ensures { IfSome result (λ value. value < 16) }
-{
-    match byte {
-        b'0'..=b'9' => Some(byte - b'0'),
-        b'a'..=b'f' => Some(byte - b'a' + 10),
-        _ => None,
-    }
-}
-
-/// The bytes of hexadecimal digits, two a byte.
-fn append_hex(bytes: &mut Vec<u8>, text: &str) -> Result<(), AllocError> {
-    for pair in text.as_bytes().chunks(2) {
-        if let [high, low] = pair {
-            bytes.push(digit(*high).unwrap_or(0) * 16 + digit(*low).unwrap_or(0))?;
-        }
-    }
-    Ok(())
-}
-
-/// The bytes of words of hexadecimal digits, some of them repeated, and of the descriptors with a name.
-fn hex(alloc: Global, text: &str) -> Result<Vec<u8>, Fail> {
-    let mut bytes = Vec::new(alloc);
-    for word in text.split_whitespace() {
-        match word.split_once('*') {
-            None => append_hex(&mut bytes, named(word))?,
-            Some((times, unit)) => {
-                let times: u8 = times.parse()?;
-                for _ in 0..times {
-                    append_hex(&mut bytes, unit)?;
-                }
-            }
-        }
-    }
-    Ok(bytes)
-}
-
-fn named(word: &str) -> &str {
-    match word {
-        "@keyboard" => KEYBOARD,
-        "@boot" => BOOT_KEYBOARD,
-        "@mouse" => MOUSE,
-        "@packed" => PACKED_MOUSE,
-        _ => word,
-    }
-}
-
 fn check_rows(rt: &impl Abort, alloc: Global, rows: &str) -> Result<(), Fail> {
     for row in rows.lines() {
         if let Some((question, want)) = row.split_once(" => ") {
@@ -399,7 +358,7 @@ fn check_row(rt: &impl Abort, alloc: Global, question: &str, want: &str) -> Resu
 
 /// The fault of a descriptor, or what its layout has.
 fn layout_text(rt: &impl Abort, alloc: Global, descriptor: &str) -> Result<String, Fail> {
-    let bytes = hex(alloc, descriptor)?;
+    let bytes = hex(alloc, &NAMES, descriptor)?;
     assert!(rt; bytes.len() < 65536);
     let layout = match read_layout(bytes.as_slice()) {
         Err(fault) => return Ok(format!(in alloc; "{:?} {}", fault.why, fault.at)?),
@@ -425,10 +384,10 @@ fn report_text(
     descriptor: &str,
     report: &str,
 ) -> Result<String, Fail> {
-    let bytes = hex(alloc, descriptor)?;
+    let bytes = hex(alloc, &NAMES, descriptor)?;
     assert!(rt; bytes.len() < 65536);
     let layout = read_layout(bytes.as_slice())?;
-    let report = hex(alloc, report)?;
+    let report = hex(alloc, &NAMES, report)?;
     let keys = keys_text(alloc, &layout, report.as_slice())?;
     let sample = match layout.pointer(report.as_slice()) {
         None => String::from_str(alloc, "-")?,

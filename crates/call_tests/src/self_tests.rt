@@ -1,7 +1,7 @@
 //! Small self-tests.
 ghost use Rattle.fail_secure.specs.Health.{IsUnfinished};
 
-use super::*;
+use fail_secure::Health;
 
 /// Checks 1, 2 and 3 passed.
 fn nearly_tested() -> Health

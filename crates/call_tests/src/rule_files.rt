@@ -3,7 +3,7 @@
 //! A row is `FILE => ANSWER`, where `|` in the file stands for the end of a line. The answer is the fault, or the entries
 //! of the two lists, `ALLOW ; DENY`: an entry has its plug, vendor, product and class with `_` for what isn't given, and
 //! `none` is a list without entries. A row with `#` gives the reason for the next ones.
-use crate::{RULES_FILE_SIZE, read_rules};
+use admin_rules::{RULES_FILE_SIZE, read_rules};
 use peripheral_filter::{Rule, RuleSet};
 use psd_base::{Plug, RuleList, RulesFault};
 use std::alloc::{AllocError, Global};
