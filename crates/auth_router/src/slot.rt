@@ -80,7 +80,8 @@ impl TokenSlot {
     /// token changes nothing.
     pub fn attach(&mut self) -> bool
         requires { self.old.life < 4294967295 }
-        ensures stands { (past : List SlotCall) → SlotStands self.old past → SlotStands self.new (Attach ∷ past) }
+        ensures stands { (past : List SlotCall) → SlotStands self.old past
+            → SlotStands self.new (Attach ∷ past) }
         ensures answer { (past : List SlotCall) → SlotStands self.old past → result ≡ comes_on Attach past }
     {
         match self.state {
@@ -107,7 +108,8 @@ impl TokenSlot {
         requires { self.old.life < 4294967295 }
         ensures stands { (past : List SlotCall) → SlotStands self.old past
             → SlotStands self.new (Clock tick ∷ past) }
-        ensures answer { (past : List SlotCall) → SlotStands self.old past → result ≡ comes_on (Clock tick) past }
+        ensures answer { (past : List SlotCall) → SlotStands self.old past
+            → result ≡ comes_on (Clock tick) past }
     {
         match self.state {
             SlotState::Off { since } => {
@@ -130,7 +132,8 @@ impl TokenSlot {
     pub fn detach(&mut self, tick: Tick) -> bool
         ensures stands { (past : List SlotCall) → SlotStands self.old past
             → SlotStands self.new (Detach tick ∷ past) }
-        ensures answer { (past : List SlotCall) → SlotStands self.old past → result ≡ goes_off (Detach tick) past }
+        ensures answer { (past : List SlotCall) → SlotStands self.old past
+            → result ≡ goes_off (Detach tick) past }
     {
         let had_power = has_power(self.state);
         if had_power {
@@ -144,7 +147,8 @@ impl TokenSlot {
     pub fn leave(&mut self, tick: Tick) -> bool
         ensures stands { (past : List SlotCall) → SlotStands self.old past
             → SlotStands self.new (Leave tick ∷ past) }
-        ensures answer { (past : List SlotCall) → SlotStands self.old past → result ≡ goes_off (Leave tick) past }
+        ensures answer { (past : List SlotCall) → SlotStands self.old past
+            → result ≡ goes_off (Leave tick) past }
     {
         let had_power = has_power(self.state);
         if had_power {
@@ -159,7 +163,8 @@ impl TokenSlot {
         requires { self.old.state ≡ SlotState.Asking }
         ensures stands { (past : List SlotCall) → SlotStands self.old past
             → SlotStands self.new (Bar tick rule ∷ past) }
-        ensures answer { (past : List SlotCall) → SlotStands self.old past → result ≡ goes_off (Bar tick rule) past }
+        ensures answer { (past : List SlotCall) → SlotStands self.old past
+            → result ≡ goes_off (Bar tick rule) past }
     {
         self.last_off = Some(tick);
         self.state = SlotState::Barred(rule);
@@ -169,7 +174,8 @@ impl TokenSlot {
     /// The token is accepted.
     pub fn checked(&mut self)
         requires { self.old.state ≡ SlotState.Asking }
-        ensures stands { (past : List SlotCall) → SlotStands self.old past → SlotStands self.new (Check ∷ past) }
+        ensures stands { (past : List SlotCall) → SlotStands self.old past
+            → SlotStands self.new (Check ∷ past) }
         ensures state { self.new.state ≡ SlotState.Checked }
     {
         self.state = SlotState::Checked;
@@ -178,7 +184,8 @@ impl TokenSlot {
     /// The token is routed to this port for the rest of its life.
     pub fn route(&mut self, port: PortId)
         requires { self.old.state ≡ SlotState.Checked }
-        ensures stands { (past : List SlotCall) → SlotStands self.old past → SlotStands self.new (Route port ∷ past) }
+        ensures stands { (past : List SlotCall) → SlotStands self.old past
+            → SlotStands self.new (Route port ∷ past) }
         ensures state { self.new.state ≡ SlotState.Routed port }
     {
         self.state = SlotState::Routed(port);

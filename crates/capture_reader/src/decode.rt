@@ -173,7 +173,8 @@ fn read_act(
     into: &mut Option<Event>,
 ) -> Result<(), CaptureFault>
     requires { IsTrue (has_fit_length (Kind.Act kind) (length payload.now)) }
-    ensures ok { OnOk result (IsOkAnd (act_of kind payload.now) (λ act. into.new ≡ Some (event_at at.now act))) }
+    ensures ok { OnOk result (IsOkAnd (act_of kind payload.now) (λ act. into.new
+        ≡ Some (event_at at.now act))) }
     ensures err { IfErr result (λ why. act_of kind payload.now ≡ Err why) }
     ensures same { OnErr result (into.new ≡ into.old) }
 {
@@ -188,7 +189,8 @@ fn read_act(
 #[tactic(auto, unfolding(crate::specs::Capture::act_of))]
 fn read_reset(at: &Place, payload: &[u8], into: &mut Option<Event>) -> Result<(), CaptureFault>
     requires { length payload.now ≡ 0 }
-    ensures ok { OnOk result (IsOkAnd (act_of ActKind.Reset payload.now) (λ act. into.new ≡ Some (event_at at.now act))) }
+    ensures ok { OnOk result (IsOkAnd (act_of ActKind.Reset payload.now) (λ act. into.new
+        ≡ Some (event_at at.now act))) }
     ensures err { IfErr result (λ why. act_of ActKind.Reset payload.now ≡ Err why) }
     ensures same { OnErr result (into.new ≡ into.old) }
 {
@@ -202,7 +204,8 @@ fn read_reset(at: &Place, payload: &[u8], into: &mut Option<Event>) -> Result<()
 #[tactic(auto, unfolding(crate::specs::Capture::act_of))]
 fn read_setup(at: &Place, payload: &[u8], into: &mut Option<Event>) -> Result<(), CaptureFault>
     requires { length payload.now ≡ 9 }
-    ensures ok { OnOk result (IsOkAnd (act_of ActKind.Setup payload.now) (λ act. into.new ≡ Some (event_at at.now act))) }
+    ensures ok { OnOk result (IsOkAnd (act_of ActKind.Setup payload.now) (λ act. into.new
+        ≡ Some (event_at at.now act))) }
     ensures err { IfErr result (λ why. act_of ActKind.Setup payload.now ≡ Err why) }
     ensures same { OnErr result (into.new ≡ into.old) }
 {
@@ -225,7 +228,8 @@ fn read_setup(at: &Place, payload: &[u8], into: &mut Option<Event>) -> Result<()
 fn read_out(at: &Place, payload: &[u8], into: &mut Option<Event>) -> Result<(), CaptureFault>
     requires at_least { 3 ≤ length payload.now }
     requires at_most { length payload.now ≤ 67 }
-    ensures ok { OnOk result (IsOkAnd (act_of ActKind.Out payload.now) (λ act. into.new ≡ Some (event_at at.now act))) }
+    ensures ok { OnOk result (IsOkAnd (act_of ActKind.Out payload.now) (λ act. into.new
+        ≡ Some (event_at at.now act))) }
     ensures err { IfErr result (λ why. act_of ActKind.Out payload.now ≡ Err why) }
     ensures same { OnErr result (into.new ≡ into.old) }
 {
@@ -252,7 +256,8 @@ fn read_out(at: &Place, payload: &[u8], into: &mut Option<Event>) -> Result<(), 
 #[tactic(auto, unfolding(crate::specs::Capture::act_of))]
 fn read_in(at: &Place, payload: &[u8], into: &mut Option<Event>) -> Result<(), CaptureFault>
     requires { length payload.now ≡ 3 }
-    ensures ok { OnOk result (IsOkAnd (act_of ActKind.In payload.now) (λ act. into.new ≡ Some (event_at at.now act))) }
+    ensures ok { OnOk result (IsOkAnd (act_of ActKind.In payload.now) (λ act. into.new
+        ≡ Some (event_at at.now act))) }
     ensures err { IfErr result (λ why. act_of ActKind.In payload.now ≡ Err why) }
     ensures same { OnErr result (into.new ≡ into.old) }
 {
@@ -285,10 +290,12 @@ pub fn read_event(
     into: &mut Option<Event>,
 ) -> Result<(), CaptureFault>
     requires { IsTrue (has_fit_length (kind_in form) (length payload.now)) }
-    ensures ok { OnOk result (IsSomeAnd into.new (λ event. (event.tick ≡ tick) × (happening_in form payload.now ≡ Ok (happening_of event.what)))) }
+    ensures ok { OnOk result (IsSomeAnd into.new (λ event. (event.tick ≡ tick)
+        × (happening_in form payload.now ≡ Ok (happening_of event.what)))) }
     ensures err { IfErr result (λ why. happening_in form payload.now ≡ Err why) }
     ensures same { OnErr result (into.new ≡ into.old) }
-    ensures within { (ports : ℕ) → IsFormWithin ports form → OnOk result (IfSome into.new (λ event. HappensWithin ports (happening_of event.what))) }
+    ensures within { (ports : ℕ) → IsFormWithin ports form → OnOk result (IfSome into.new
+        (λ event. HappensWithin ports (happening_of event.what))) }
 {
     match form {
         Form::Clock => {

@@ -113,7 +113,8 @@ fn read_check(text: &[u8]) -> Option<Panel>
 /// The outcome of the check of this number, by what stands behind the number.
 fn check(number: u8, rest: &[u8]) -> Option<Panel>
     requires { (1 ≤ number) × (number ≤ CHECKS) }
-    ensures value { result ≡ move_among (checks CHECKS) (99 ∷ 104 ∷ 101 ∷ 99 ∷ 107 ∷ 32 ∷ digit_of number ∷ rest.now) }
+    ensures value { result
+        ≡ move_among (checks CHECKS) (99 ∷ 104 ∷ 101 ∷ 99 ∷ 107 ∷ 32 ∷ digit_of number ∷ rest.now) }
     ensures within { IfSome result (MovesWithin MAX_PORTS) }
 {
     if rest == b" pass".as_slice() {

@@ -62,7 +62,8 @@ impl Progress {
         requires capture { capture ≡ record { bytes = []; ended = false } }
         requires script { script ≡ record { bytes = []; ended = false } }
         ensures sound { IfOk result IsSound }
-        ensures counts { IfOk result (λ progress. (progress.limit ≡ limit) × (progress.served ≡ 0) × (progress.tick ≡ 0) × (progress.state ≡ State.Waiting)) }
+        ensures counts { IfOk result (λ progress. (progress.limit ≡ limit) × (progress.served ≡ 0)
+            × (progress.tick ≡ 0) × (progress.state ≡ State.Waiting)) }
         ensures ports { IfOk result (λ progress. IfSome ((D.told desk.old).left Input.Capture)
             (λ bytes. port_count bytes ≡ progress.capture.ports)) }
         ensures rest { IfOk result (λ progress. rest_told (reading progress) (D.told desk.new)
@@ -92,7 +93,8 @@ impl Progress {
         requires capture { IsOpened capture }
         requires script { IsUnread capture.ports script }
         ensures sound { IfOk result IsSound }
-        ensures counts { IfOk result (λ progress. (progress.limit ≡ limit) × (progress.served ≡ 0) × (progress.tick ≡ 0)
+        ensures counts { IfOk result (λ progress. (progress.limit ≡ limit) × (progress.served ≡ 0)
+            × (progress.tick ≡ 0)
             × (progress.state ≡ State.Waiting) × (progress.capture.ports ≡ capture.ports)) }
         ensures rest { let before = merged limit (records_later capture (D.told desk.old)) (lines_later script (D.told desk.old)) in
             IfOk result (λ progress. rest_told (reading progress) (D.told desk.new) ≡ before) }
@@ -120,13 +122,18 @@ impl Progress {
         requires capture { IsOpened capture }
         requires script { IsLookedAt capture.ports script }
         ensures sound { IfOk result IsSound }
-        ensures counts { IfOk result (λ progress. (progress.limit ≡ limit) × (progress.served ≡ 0) × (progress.tick ≡ 0)
+        ensures counts { IfOk result (λ progress. (progress.limit ≡ limit) × (progress.served ≡ 0)
+            × (progress.tick ≡ 0)
             × (progress.state ≡ State.Waiting) × (progress.capture.ports ≡ capture.ports)) }
-        ensures rest { (left : Option (List ℕ)) → let before = merged limit (records_later capture (D.told desk.old)) (lines_with_ahead script left) in
-            IfOk result (λ progress. rest (reading progress) ((D.told desk.new).left Input.Capture) left ≡ before) }
-        ensures looked { (left : Option (List ℕ)) → let before = merged limit (records_later capture (D.told desk.old)) (lines_with_ahead script left) in
+        ensures rest { (left : Option (List ℕ))
+            → let before = merged limit (records_later capture (D.told desk.old)) (lines_with_ahead script left) in
+            IfOk result (λ progress. rest (reading progress) ((D.told desk.new).left Input.Capture) left
+            ≡ before) }
+        ensures looked { (left : Option (List ℕ))
+            → let before = merged limit (records_later capture (D.told desk.old)) (lines_with_ahead script left) in
             OnOk result (IsLooked before) }
-        ensures err { (left : Option (List ℕ)) → let before = merged limit (records_later capture (D.told desk.old)) (lines_with_ahead script left) in
+        ensures err { (left : Option (List ℕ))
+            → let before = merged limit (records_later capture (D.told desk.old)) (lines_with_ahead script left) in
             IfErr result (NewFailed before (D.told desk.old) (D.told desk.new) ⊥) }
         ensures only { OnlyReads Input.Capture (D.told desk.old) (D.told desk.new) }
     {
@@ -148,7 +155,8 @@ impl Progress {
     pub fn advance<D: Desk>(&mut self, desk: &mut D) -> Result<bool, Stop>
         requires sound { IsSound self.old }
         ensures sound { IsSound self.new }
-        ensures counts { (self.new.limit ≡ self.old.limit) × (self.new.capture.ports ≡ self.old.capture.ports) × (self.old.tick ≤ self.new.tick) }
+        ensures counts { (self.new.limit ≡ self.old.limit) × (self.new.capture.ports
+            ≡ self.old.capture.ports) × (self.old.tick ≤ self.new.tick) }
 
         ensures next { result ≡ Ok true → GivesNext (reading self.new)
             (rest_told (reading self.old) (D.told desk.old))
@@ -160,7 +168,8 @@ impl Progress {
 
         ensures end { result ≡ Ok false → IsAtEnd (reading self.new) × ShowsOver None (reading self.new)
             × IsOver None (rest_told (reading self.old) (D.told desk.old)) }
-        ensures at_end { IsAtEnd (reading self.old) → (result ≡ Ok false) × (self.new ≡ self.old) × (desk.new ≡ desk.old) }
+        ensures at_end { IsAtEnd (reading self.old) → (result ≡ Ok false) × (self.new ≡ self.old)
+            × (desk.new ≡ desk.old) }
 
         ensures stop { IfErr result (λ stop. (reading self.new).stopped ≡ Some stop) }
         ensures cause { IfErr result (λ stop. ((reading self.old).stopped ≡ Some stop)
@@ -171,13 +180,15 @@ impl Progress {
 
         ensures rest { result ≢ Ok true → rest_told (reading self.new) (D.told desk.new)
             ≡ rest_told (reading self.old) (D.told desk.old) }
-        ensures stays { result ≢ Ok true → ((reading self.new).given ≡ None) × (self.new.served ≡ self.old.served) }
+        ensures stays { result ≢ Ok true → ((reading self.new).given ≡ None)
+            × (self.new.served ≡ self.old.served) }
 
         ensures unread_capture { self.old.capture.window.ended ≡ true → (self.new.capture.window.ended ≡ true)
             × ((D.told desk.new).left Input.Capture ≡ (D.told desk.old).left Input.Capture) }
         ensures unread_script { self.old.script.window.ended ≡ true → (self.new.script.window.ended ≡ true)
             × ((D.told desk.new).left Input.Script ≡ (D.told desk.old).left Input.Script) }
-        ensures unread { self.old.capture.window.ended ≡ true → self.old.script.window.ended ≡ true → desk.new ≡ desk.old }
+        ensures unread { self.old.capture.window.ended ≡ true → self.old.script.window.ended ≡ true
+            → desk.new ≡ desk.old }
         ensures only { ReadsSources (D.told desk.old) (D.told desk.new) }
     {
         match &self.state {
@@ -199,13 +210,17 @@ impl Progress {
         requires given { self.old.state ≡ State.GivenRecord }
         requires sound { IsSound self.old }
         ensures sound { IsSound self.new }
-        ensures counts { (self.new.limit ≡ self.old.limit) × (self.new.served ≡ self.old.served) × (self.new.tick ≡ self.old.tick)
+        ensures counts { (self.new.limit ≡ self.old.limit) × (self.new.served ≡ self.old.served)
+            × (self.new.tick ≡ self.old.tick)
             × (self.new.capture.ports ≡ self.old.capture.ports) × (self.new.script ≡ self.old.script) }
-        ensures rest { (left : Option (List ℕ)) → rest (reading self.new) ((D.told desk.new).left Input.Capture) left
+        ensures rest { (left : Option (List ℕ))
+            → rest (reading self.new) ((D.told desk.new).left Input.Capture) left
             ≡ rest (reading self.old) ((D.told desk.old).left Input.Capture) left }
-        ensures unread { self.old.capture.window.ended ≡ true → (self.new.capture.window.ended ≡ true) × (desk.new ≡ desk.old) }
+        ensures unread { self.old.capture.window.ended ≡ true → (self.new.capture.window.ended ≡ true)
+            × (desk.new ≡ desk.old) }
         ensures ok { OnOk result (self.new.state ≡ State.Waiting) }
-        ensures err { IfErr result (λ stop. (self.new.state ≡ State.Stopped stop) × (self.new.capture.ahead ≡ None)
+        ensures err { IfErr result (λ stop. (self.new.state ≡ State.Stopped stop)
+            × (self.new.capture.ahead ≡ None)
             × FailedLook self.new.capture (D.told desk.old) (D.told desk.new) stop) }
         ensures only { OnlyReads Input.Capture (D.told desk.old) (D.told desk.new) }
     {
@@ -227,13 +242,17 @@ impl Progress {
         requires given { self.old.state ≡ State.GivenLine }
         requires sound { IsSound self.old }
         ensures sound { IsSound self.new }
-        ensures counts { (self.new.limit ≡ self.old.limit) × (self.new.served ≡ self.old.served) × (self.new.tick ≡ self.old.tick)
+        ensures counts { (self.new.limit ≡ self.old.limit) × (self.new.served ≡ self.old.served)
+            × (self.new.tick ≡ self.old.tick)
             × (self.new.capture ≡ self.old.capture) }
-        ensures rest { (left : Option (List ℕ)) → rest (reading self.new) left ((D.told desk.new).left Input.Script)
+        ensures rest { (left : Option (List ℕ))
+            → rest (reading self.new) left ((D.told desk.new).left Input.Script)
             ≡ rest (reading self.old) left ((D.told desk.old).left Input.Script) }
-        ensures unread { self.old.script.window.ended ≡ true → (self.new.script.window.ended ≡ true) × (desk.new ≡ desk.old) }
+        ensures unread { self.old.script.window.ended ≡ true → (self.new.script.window.ended ≡ true)
+            × (desk.new ≡ desk.old) }
         ensures ok { OnOk result (self.new.state ≡ State.Waiting) }
-        ensures err { IfErr result (λ stop. (self.new.state ≡ State.Stopped stop) × (self.new.script.ahead ≡ None)
+        ensures err { IfErr result (λ stop. (self.new.state ≡ State.Stopped stop)
+            × (self.new.script.ahead ≡ None)
             × FailedLineLook self.new.script (D.told desk.old) (D.told desk.new) stop) }
         ensures only { OnlyReads Input.Script (D.told desk.old) (D.told desk.new) }
     {
@@ -255,7 +274,8 @@ impl Progress {
         requires waiting { self.old.state ≡ State.Waiting }
         requires sound { IsSound self.old }
         ensures sound { IsSound self.new }
-        ensures counts { (self.new.limit ≡ self.old.limit) × (self.new.capture ≡ self.old.capture) × (self.new.script ≡ self.old.script)
+        ensures counts { (self.new.limit ≡ self.old.limit) × (self.new.capture ≡ self.old.capture)
+            × (self.new.script ≡ self.old.script)
             × (self.old.tick ≤ self.new.tick) }
 
         ensures next { result ≡ Ok true → (capture script : Option (List ℕ))
@@ -264,9 +284,11 @@ impl Progress {
         ensures going { result ≡ Ok true → (reading self.new).stopped ≡ None }
         ensures order { result ≡ Ok true → IfSome (reading self.new).given
             (IsInOrder self.old.tick self.new.tick self.new.capture.ports) }
-        ensures end { result ≡ Ok false → (self.new ≡ self.old) × (self.old.capture.ahead ≡ None) × (self.old.script.ahead ≡ None)
+        ensures end { result ≡ Ok false → (self.new ≡ self.old) × (self.old.capture.ahead ≡ None)
+            × (self.old.script.ahead ≡ None)
             × ShowsOver None (reading self.new) }
-        ensures none { self.old.capture.ahead ≡ None → self.old.script.ahead ≡ None → (result ≡ Ok false) × (self.new ≡ self.old) }
+        ensures none { self.old.capture.ahead ≡ None → self.old.script.ahead ≡ None → (result ≡ Ok false)
+            × (self.new ≡ self.old) }
         ensures rest { result ≢ Ok true → (capture script : Option (List ℕ))
             → rest (reading self.new) capture script ≡ rest (reading self.old) capture script }
         ensures stop { IfErr result (λ stop. (stop ≡ Stop.TooLong)

@@ -39,7 +39,8 @@ impl Reader {
         requires { limit ≤ EVENTS_MAX }
         ensures rest { IfOk result (λ reader. rest_told reader (D.told desk.new)
             ≡ schedule_told limit (D.told desk.old)) }
-        ensures ports { IfOk result (λ reader. IfSome ((D.told desk.old).left Input.Capture) (λ bytes. port_count bytes ≡ reader.ports)
+        ensures ports { IfOk result (λ reader. IfSome ((D.told desk.old).left Input.Capture)
+            (λ bytes. port_count bytes ≡ reader.ports)
             × (2 ≤ reader.ports) × (reader.ports ≤ MAX_PORTS)) }
         ensures fresh { IfOk result (λ reader. (reader.limit ≡ limit) × (reader.served ≡ 0)
             × (reader.given ≡ None) × (reader.stopped ≡ None)) }
@@ -87,19 +88,22 @@ impl Reader {
         ensures served { result ≡ Ok true → self.new.served ≡ self.old.served + 1 }
         ensures going { result ≡ Ok true → self.new.stopped ≡ None }
         ensures within { self.new.served ≤ self.new.limit }
-        ensures order { result ≡ Ok true → IfSome self.new.given (IsInOrder self.old.tick self.new.tick self.new.ports) }
+        ensures order { result ≡ Ok true
+            → IfSome self.new.given (IsInOrder self.old.tick self.new.tick self.new.ports) }
 
         // There is none, at this call and at each later one.
         ensures end { result ≡ Ok false → IsAtEnd self.new × ShowsOver None self.new
             × IsOver None (rest_told self.old (D.told desk.old)) }
-        ensures at_end { IsAtEnd self.old → (result ≡ Ok false) × (self.new ≡ self.old) × (desk.new ≡ desk.old) }
+        ensures at_end { IsAtEnd self.old → (result ≡ Ok false) × (self.new ≡ self.old)
+            × (desk.new ≡ desk.old) }
 
         // It stops, at this call or an earlier one.
         ensures stop { IfErr result (λ stop. self.new.stopped ≡ Some stop) }
         ensures cause { IfErr result (λ stop. (self.old.stopped ≡ Some stop)
             ⊎ StopsBecause self.new (rest_told self.old (D.told desk.old))
             (D.told desk.old) (D.told desk.new) stop) }
-        ensures stopped { IfSome self.old.stopped (λ stop. (result ≡ Err stop) × (self.new ≡ self.old) × (desk.new ≡ desk.old)) }
+        ensures stopped { IfSome self.old.stopped (λ stop. (result ≡ Err stop) × (self.new ≡ self.old)
+            × (desk.new ≡ desk.old)) }
 
         // Without an event nothing is lost.
         ensures rest { result ≢ Ok true → rest_told self.new (D.told desk.new)
@@ -111,9 +115,11 @@ impl Reader {
             × ((D.told desk.new).left Input.Capture ≡ (D.told desk.old).left Input.Capture) }
         ensures unread_script { self.old.script.held.ended ≡ true → (self.new.script.held.ended ≡ true)
             × ((D.told desk.new).left Input.Script ≡ (D.told desk.old).left Input.Script) }
-        ensures unread { self.old.capture.held.ended ≡ true → self.old.script.held.ended ≡ true → desk.new ≡ desk.old }
+        ensures unread { self.old.capture.held.ended ≡ true → self.old.script.held.ended ≡ true
+            → desk.new ≡ desk.old }
 
-        ensures counts { (self.new.limit ≡ self.old.limit) × (self.new.ports ≡ self.old.ports) × (self.old.tick ≤ self.new.tick) }
+        ensures counts { (self.new.limit ≡ self.old.limit) × (self.new.ports ≡ self.old.ports)
+            × (self.old.tick ≤ self.new.tick) }
         ensures desk { ReadsSources (D.told desk.old) (D.told desk.new) }
     {
         self.progress.advance(desk)
@@ -138,7 +144,8 @@ impl Reader {
 
 /// The buffers of the capture and of the script.
 fn buffers(alloc: Global) -> Result<(Window, Window), AllocError>
-    ensures { IfOk result (λ windows. (windows.0 ≡ record { bytes = []; ended = false }) × (windows.1 ≡ record { bytes = []; ended = false })) }
+    ensures { IfOk result (λ windows. (windows.0 ≡ record { bytes = []; ended = false })
+        × (windows.1 ≡ record { bytes = []; ended = false })) }
 {
     let capture = Window::new(alloc)?;
     let script = Window::new(alloc)?;

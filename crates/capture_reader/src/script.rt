@@ -55,7 +55,8 @@ impl ScriptSource {
         ensures err { IfErr result (FailedLineLook self.new (D.told desk.old) (D.told desk.new)) }
         ensures stays { OnErr result (lines_later self.new (D.told desk.new)
             ≡ lines_later self.old (D.told desk.old)) }
-        ensures unread { self.old.window.ended ≡ true → (self.new.window.ended ≡ true) × (desk.new ≡ desk.old) }
+        ensures unread { self.old.window.ended ≡ true → (self.new.window.ended ≡ true)
+            × (desk.new ≡ desk.old) }
         ensures none { OnErr result (self.new.ahead ≡ None) }
 
         ensures only { OnlyReads Input.Script (D.told desk.old) (D.told desk.new) }
@@ -76,7 +77,8 @@ impl ScriptSource {
         ensures window { self.new.window.ended ≡ self.old.window.ended }
         ensures tick { self.old.tick ≤ self.new.tick }
         ensures line { self.new.line ≤ self.old.line + 1 }
-        ensures read { OnOk result ((left : List ℕ) → lines self.old.ports self.old.tick self.old.line 0 (coming self.old.window left)
+        ensures read { OnOk result ((left : List ℕ)
+            → lines self.old.ports self.old.tick self.old.line 0 (coming self.old.window left)
             ≡ after_ahead (option_map seen self.new.ahead) (lines self.new.ports self.new.tick self.new.line 0 (coming self.new.window left))) }
         ensures ahead { OnOk result (IfSome self.new.ahead (IsNextLine self.new)) }
         ensures end { OnOk result (IfNone self.new.ahead (LinesEndNow self.new None)) }

@@ -30,9 +30,12 @@ impl CaptureSource {
     pub fn open<D: Desk>(window: Window, desk: &mut D) -> Result<CaptureSource, Stop>
         requires { window ≡ record { bytes = []; ended = false } }
         ensures ports { IfOk result (λ source. (2 ≤ source.ports) × (source.ports ≤ MAX_PORTS)) }
-        ensures begin { IfOk result (λ source. (source.tick ≡ 0) × (source.offset ≡ 8) × (source.ahead ≡ None)) }
-        ensures header { IfOk result (λ source. IfSome ((D.told desk.old).left Input.Capture) (λ bytes. header bytes ≡ Ok source.ports)) }
-        ensures records { IfOk result (λ source. option_map (λ bytes. records source.ports 0 8 0 (drop 8 bytes)) ((D.told desk.old).left Input.Capture)
+        ensures begin { IfOk result (λ source. (source.tick ≡ 0) × (source.offset ≡ 8)
+            × (source.ahead ≡ None)) }
+        ensures header { IfOk result (λ source. IfSome ((D.told desk.old).left Input.Capture)
+            (λ bytes. header bytes ≡ Ok source.ports)) }
+        ensures records { IfOk result (λ source. option_map
+            (λ bytes. records source.ports 0 8 0 (drop 8 bytes)) ((D.told desk.old).left Input.Capture)
             ≡ later source.ports 0 8 source.window ((D.told desk.new).left Input.Capture)) }
         ensures err { IfErr result (OpenFailed (D.told desk.old) (D.told desk.new)) }
         ensures only { OnlyReads Input.Capture (D.told desk.old) (D.told desk.new) }
@@ -52,7 +55,8 @@ impl CaptureSource {
     fn behind_header(window: Window) -> Result<CaptureSource, Stop>
         requires { 8 ≤ length window.bytes }
         ensures ports { IfOk result (λ source. (2 ≤ source.ports) × (source.ports ≤ MAX_PORTS)) }
-        ensures begin { IfOk result (λ source. (source.tick ≡ 0) × (source.offset ≡ 8) × (source.ahead ≡ None)) }
+        ensures begin { IfOk result (λ source. (source.tick ≡ 0) × (source.offset ≡ 8)
+            × (source.ahead ≡ None)) }
         ensures behind { IfOk result (λ source. (header window.bytes ≡ Ok source.ports)
             × (source.window ≡ record window { bytes = drop 8 window.bytes })) }
         ensures err { IfErr result (λ stop. (header window.bytes ≡ Err stop) × IsCaptureStop stop) }
@@ -89,7 +93,8 @@ impl CaptureSource {
         ensures err { IfErr result (FailedLook self.new (D.told desk.old) (D.told desk.new)) }
         ensures stays { OnErr result (records_later self.new (D.told desk.new)
             ≡ records_later self.old (D.told desk.old)) }
-        ensures unread { self.old.window.ended ≡ true → (self.new.window.ended ≡ true) × (desk.new ≡ desk.old) }
+        ensures unread { self.old.window.ended ≡ true → (self.new.window.ended ≡ true)
+            × (desk.new ≡ desk.old) }
         ensures none { OnErr result (self.new.ahead ≡ None) }
 
         ensures only { OnlyReads Input.Capture (D.told desk.old) (D.told desk.new) }
@@ -129,7 +134,8 @@ impl CaptureSource {
         ensures same { OnErr result (self.new ≡ record self.old { window = self.new.window }) }
         ensures stays { OnErr result (records_later self.new (D.told desk.new)
             ≡ records_later self.old (D.told desk.old)) }
-        ensures unread { self.old.window.ended ≡ true → (self.new.window.ended ≡ true) × (desk.new ≡ desk.old) }
+        ensures unread { self.old.window.ended ≡ true → (self.new.window.ended ≡ true)
+            × (desk.new ≡ desk.old) }
         ensures only { OnlyReads Input.Capture (D.told desk.old) (D.told desk.new) }
     {
         let head = read_head(self.window.bytes());
@@ -159,7 +165,8 @@ impl CaptureSource {
         ensures same { OnErr result (self.new ≡ record self.old { window = self.new.window }) }
         ensures stays { OnErr result (records_later self.new (D.told desk.new)
             ≡ records_later self.old (D.told desk.old)) }
-        ensures unread { self.old.window.ended ≡ true → (self.new.window.ended ≡ true) × (desk.new ≡ desk.old) }
+        ensures unread { self.old.window.ended ≡ true → (self.new.window.ended ≡ true)
+            × (desk.new ≡ desk.old) }
         ensures only { OnlyReads Input.Capture (D.told desk.old) (D.told desk.new) }
     {
         let size = HEAD_SIZE + head.length as usize;

@@ -89,7 +89,8 @@ impl Window {
         count: usize,
     ) -> Result<bool, DeskFailed>
         requires { count ≤ WINDOW_SIZE }
-        ensures still { still self.new ((D.told desk.new).left from) ≡ still self.old ((D.told desk.old).left from) }
+        ensures still { still self.new ((D.told desk.new).left from)
+            ≡ still self.old ((D.told desk.old).left from) }
         ensures front { Begins self.old.bytes self.new.bytes }
         ensures held { result ≡ Ok true → count ≤ length self.new.bytes }
         ensures ended { result ≡ Ok false → (self.new.ended ≡ true) × (length self.new.bytes < count) }
@@ -110,7 +111,8 @@ impl Window {
     /// Reads on until the first line is held, or one byte more than the most of a line, or the end of the input is met.
     /// Answers how many bytes the line has. It reads no further than it must, and a read that failed leaves what is held.
     pub fn hold_line<D: Desk>(&mut self, desk: &mut D, from: Input) -> Result<usize, DeskFailed>
-        ensures still { still self.new ((D.told desk.new).left from) ≡ still self.old ((D.told desk.old).left from) }
+        ensures still { still self.new ((D.told desk.new).left from)
+            ≡ still self.old ((D.told desk.old).left from) }
         ensures line { IfOk result (FrontLine self.new) }
         ensures part { OnErr result (HasNoLine self.new.bytes) }
         ensures unread { self.old.ended ≡ true → (self.new ≡ self.old) × (desk.new ≡ desk.old) }
@@ -140,7 +142,8 @@ impl Window {
     fn refill<D: Desk>(&mut self, desk: &mut D, from: Input) -> Result<(), DeskFailed>
         requires room { length self.old.bytes < WINDOW_SIZE }
         requires open { self.old.ended ≡ false }
-        ensures still { still self.new ((D.told desk.new).left from) ≡ still self.old ((D.told desk.old).left from) }
+        ensures still { still self.new ((D.told desk.new).left from)
+            ≡ still self.old ((D.told desk.old).left from) }
         ensures front { Begins self.old.bytes self.new.bytes }
         ensures more { OnOk result (self.new.ended ≡ false → length self.old.bytes < length self.new.bytes) }
         ensures same { OnErr result (self.new ≡ self.old) }
@@ -202,7 +205,8 @@ pub fn read_behind<D: Desk>(
     requires { end < length buffer.old }
     ensures kept { take end buffer.new ≡ take end buffer.old }
     ensures within { IfOk result (λ count. end + count ≤ length buffer.old) }
-    ensures moved { IfOk result (λ count. (D.told desk.old).left from ≡ option_map (λ rest. slice_range buffer.new end (end + count) ++ rest) ((D.told desk.new).left from)) }
+    ensures moved { IfOk result (λ count. (D.told desk.old).left from ≡ option_map
+        (λ rest. slice_range buffer.new end (end + count) ++ rest) ((D.told desk.new).left from)) }
     ensures ended { result ≡ Ok 0 → IfSome ((D.told desk.old).left from) (λ rest. rest ≡ []) }
     ensures stays { OnErr result ((D.told desk.new).left from ≡ (D.told desk.old).left from) }
     ensures failed { OnErr result (ReadFailed from (D.told desk.old) (D.told desk.new)) }

@@ -93,9 +93,11 @@ impl Attachment {
 
     /// Begins the life of this number, at this tick. Gives its first order.
     pub fn begin(&mut self, life: u32, tick: Tick) -> Order
-        ensures stands { (plug : Plug) (rules : RuleSet) (past : List Call) → AttachmentStands plug rules self.old past
+        ensures stands { (plug : Plug) (rules : RuleSet) (past : List Call)
+            → AttachmentStands plug rules self.old past
             → AttachmentStands plug rules self.new (Began life tick ∷ past) }
-        ensures order { (plug : Plug) (rules : RuleSet) (past : List Call) → AttachmentStands plug rules self.old past
+        ensures order { (plug : Plug) (rules : RuleSet) (past : List Call)
+            → AttachmentStands plug rules self.old past
             → result ≡ Order.Ask plug life DEVICE GET_DEVICE }
     {
         self.forget();
@@ -137,9 +139,11 @@ impl Attachment {
 
     /// Lets the clock tick. Gives whether an order has been outstanding for `SILENCE` ticks; it is then given up.
     pub fn clock(&mut self, tick: Tick) -> bool
-        ensures stands { (plug : Plug) (rules : RuleSet) (past : List Call) → AttachmentStands plug rules self.old past
+        ensures stands { (plug : Plug) (rules : RuleSet) (past : List Call)
+            → AttachmentStands plug rules self.old past
             → AttachmentStands plug rules self.new (Ticked tick ∷ past) }
-        ensures answer { (plug : Plug) (rules : RuleSet) (past : List Call) → AttachmentStands plug rules self.old past
+        ensures answer { (plug : Plug) (rules : RuleSet) (past : List Call)
+            → AttachmentStands plug rules self.old past
             → result ≡ is_silent_in plug rules tick (standing plug rules past).life }
     {
         if self.is_overdue(tick) {
@@ -152,7 +156,8 @@ impl Attachment {
 
     /// The layout of an interface that is accepted in the present life, by its bInterfaceNumber.
     pub fn accepted(&self, interface: u8) -> Option<&Layout>
-        ensures { (plug : Plug) (rules : RuleSet) (past : List Call) → AttachmentStands plug rules self.now past
+        ensures { (plug : Plug) (rules : RuleSet) (past : List Call)
+            → AttachmentStands plug rules self.now past
             → option_copied result ≡ layout_in interface (accepted_of plug (standing plug rules past).life) }
     {
         layout_of(self.accepted.as_slice(), interface)
@@ -160,9 +165,11 @@ impl Attachment {
 
     /// The device descriptor and the configuration of the first life since the attachment that became ready.
     pub fn accepted_bytes(&self) -> Option<(&[u8], &[u8])>
-        ensures { (plug : Plug) (rules : RuleSet) (past : List Call) → AttachmentStands plug rules self.now past
+        ensures { (plug : Plug) (rules : RuleSet) (past : List Call)
+            → AttachmentStands plug rules self.now past
             → MatchOption result ((standing plug rules past).accepted ≡ None)
-            (λ p. (standing plug rules past).accepted ≡ Some (record { device = p.0.now; configuration = p.1.now })) }
+            (λ p. (standing plug rules past).accepted
+            ≡ Some (record { device = p.0.now; configuration = p.1.now })) }
     {
         match &self.known {
             None => None,
@@ -173,7 +180,8 @@ impl Attachment {
     /// What the peripheral looks like to a host. None exactly where the present life isn't ready.
     pub fn shape(&self) -> Option<Shape>
         ensures sized { IfSome result (λ shape. IsTrue (is_packet_size shape.max0)) }
-        ensures shape { (plug : Plug) (rules : RuleSet) (past : List Call) → AttachmentStands plug rules self.now past
+        ensures shape { (plug : Plug) (rules : RuleSet) (past : List Call)
+            → AttachmentStands plug rules self.now past
             → result ≡ shape_of_life plug rules (standing plug rules past).life }
     {
         match self.phase {
@@ -189,7 +197,8 @@ impl Attachment {
 
     /// Ends the present life, as the peripheral loses its power.
     pub fn drop_life(&mut self)
-        ensures { (plug : Plug) (rules : RuleSet) (past : List Call) → AttachmentStands plug rules self.old past
+        ensures { (plug : Plug) (rules : RuleSet) (past : List Call)
+            → AttachmentStands plug rules self.old past
             → AttachmentStands plug rules self.new (LifeDropped ∷ past) }
     {
         self.forget();
@@ -198,7 +207,8 @@ impl Attachment {
 
     /// Ends the present life, and forgets which descriptors were accepted, as the peripheral is taken off.
     pub fn detach(&mut self)
-        ensures { (plug : Plug) (rules : RuleSet) (past : List Call) → AttachmentStands plug rules self.old past
+        ensures { (plug : Plug) (rules : RuleSet) (past : List Call)
+            → AttachmentStands plug rules self.old past
             → AttachmentStands plug rules self.new (Detached ∷ past) }
     {
         self.forget();
@@ -270,10 +280,14 @@ impl Attachment {
         notes: &mut Notes,
     ) -> Next
         requires { notes.old.items ≡ [] }
-        ensures after { self.new ≡ answered_with (awaited life number self.old.phase) rules.now life tick (reply_of status bytes.now) self.old }
-        ensures next { result ≡ answered_next (awaited life number self.old.phase) rules.now life (reply_of status bytes.now) self.old }
-        ensures notes { notes.new.items ≡ answered_notes (awaited life number self.old.phase) rules.now (reply_of status bytes.now) self.old }
-        ensures few { length self.old.fits.items ≤ INTERFACES_MAX → length self.new.fits.items ≤ INTERFACES_MAX }
+        ensures after { self.new
+            ≡ answered_with (awaited life number self.old.phase) rules.now life tick (reply_of status bytes.now) self.old }
+        ensures next { result
+            ≡ answered_next (awaited life number self.old.phase) rules.now life (reply_of status bytes.now) self.old }
+        ensures notes { notes.new.items
+            ≡ answered_notes (awaited life number self.old.phase) rules.now (reply_of status bytes.now) self.old }
+        ensures few { length self.old.fits.items ≤ INTERFACES_MAX
+            → length self.new.fits.items ≤ INTERFACES_MAX }
         ensures few_notes { length notes.new.items ≤ 2 + INTERFACES_MAX }
     {
         match self.awaited(life, number) {
@@ -299,7 +313,8 @@ impl Attachment {
         ensures after { self.new ≡ judged step rules.now (reply_of status bytes.now) self.old }
         ensures notes { notes.new.items ≡ judged_notes step rules.now (reply_of status bytes.now) self.old }
         ensures few_notes { length notes.new.items ≤ 1 + INTERFACES_MAX }
-        ensures few { length self.old.fits.items ≤ INTERFACES_MAX → length self.new.fits.items ≤ INTERFACES_MAX }
+        ensures few { length self.old.fits.items ≤ INTERFACES_MAX
+            → length self.new.fits.items ≤ INTERFACES_MAX }
     {
         match step {
             Step::Device => self.judge_device(status, bytes),
@@ -317,8 +332,10 @@ impl Attachment {
     }
 
     fn judge_device(&mut self, status: u8, bytes: &[u8]) -> Outcome
-        ensures outcome { result ≡ device_outcome (device_reading self.old.known (reply_of status bytes.now)) }
-        ensures after { self.new ≡ with_device (device_reading self.old.known (reply_of status bytes.now)) bytes.now self.old }
+        ensures outcome { result
+            ≡ device_outcome (device_reading self.old.known (reply_of status bytes.now)) }
+        ensures after { self.new
+            ≡ with_device (device_reading self.old.known (reply_of status bytes.now)) bytes.now self.old }
     {
         match judge_device(&self.known, status, bytes) {
             Ok(device) => {
@@ -340,11 +357,15 @@ impl Attachment {
         notes: &mut Notes,
     ) -> Outcome
         requires { notes.old.items ≡ [] }
-        ensures outcome { result ≡ plain_outcome (configuration_verdict rules.now device.now total (reply_of status bytes.now) self.old) (Step.Configure (configuration_value bytes.now)) }
-        ensures after { self.new ≡ with_configuration (configuration_verdict rules.now device.now total (reply_of status bytes.now) self.old) device.now bytes.now self.old }
-        ensures notes { notes.new.items ≡ configuration_notes (configuration_verdict rules.now device.now total (reply_of status bytes.now) self.old) self.old.plug bytes.now }
+        ensures outcome { result
+            ≡ plain_outcome (configuration_verdict rules.now device.now total (reply_of status bytes.now) self.old) (Step.Configure (configuration_value bytes.now)) }
+        ensures after { self.new
+            ≡ with_configuration (configuration_verdict rules.now device.now total (reply_of status bytes.now) self.old) device.now bytes.now self.old }
+        ensures notes { notes.new.items
+            ≡ configuration_notes (configuration_verdict rules.now device.now total (reply_of status bytes.now) self.old) self.old.plug bytes.now }
         ensures few_notes { length notes.new.items ≤ INTERFACES_MAX }
-        ensures few { length self.old.fits.items ≤ INTERFACES_MAX → length self.new.fits.items ≤ INTERFACES_MAX }
+        ensures few { length self.old.fits.items ≤ INTERFACES_MAX
+            → length self.new.fits.items ≤ INTERFACES_MAX }
     {
         match judge_configuration(self.plug, rules, device, total, &self.known, status, bytes) {
             Verdict::Refused(rule) => Outcome::Refused(rule),
@@ -400,9 +421,12 @@ impl Attachment {
         notes: &mut Notes,
     ) -> Outcome
         requires { notes.old.items ≡ [] }
-        ensures outcome { result ≡ report_outcome (silence_verdict status) ask (reply_of status bytes.now) self.old }
-        ensures after { self.new ≡ after_report (silence_verdict status) ask (reply_of status bytes.now) self.old }
-        ensures notes { notes.new.items ≡ report_notes (silence_verdict status) ask (reply_of status bytes.now) self.old }
+        ensures outcome { result
+            ≡ report_outcome (silence_verdict status) ask (reply_of status bytes.now) self.old }
+        ensures after { self.new
+            ≡ after_report (silence_verdict status) ask (reply_of status bytes.now) self.old }
+        ensures notes { notes.new.items
+            ≡ report_notes (silence_verdict status) ask (reply_of status bytes.now) self.old }
         ensures few { length notes.new.items ≤ 1 + INTERFACES_MAX }
     {
         if status > STALL {

@@ -32,7 +32,8 @@ pub fn judge_configuration(
     status: u8,
     bytes: &[u8],
 ) -> Verdict
-    ensures verdict { result ≡ first_that_holds (configuration_step plug rules.now device.now total before.now (reply_of status bytes.now)) }
+    ensures verdict { result
+        ≡ first_that_holds (configuration_step plug rules.now device.now total before.now (reply_of status bytes.now)) }
     ensures faultless { result ≡ Verdict.Accepted → config_fault bytes.now ≡ None }
     ensures short { result ≡ Verdict.Accepted → length bytes.now ≤ BLOCK_SIZE }
 {
@@ -67,7 +68,8 @@ fn judge_whole(
     bytes: &[u8],
     before: Option<&[u8]>,
 ) -> Verdict
-    ensures verdict { result ≡ first_that_holds (config_rules plug rules.now device.now bytes.now (option_copied before.entry)) }
+    ensures verdict { result
+        ≡ first_that_holds (config_rules plug rules.now device.now bytes.now (option_copied before.entry)) }
     ensures faultless { result ≡ Verdict.Accepted → config_fault bytes.now ≡ None }
 {
     judge_config(plug, rules, device, bytes, before)

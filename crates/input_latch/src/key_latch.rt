@@ -71,7 +71,8 @@ impl KeyLatch {
     pub fn snapshot(&mut self, keys: &KeySet) -> Offered
         ensures stands { (past : List KeyEntry) → KeyLatchStands self.old past
             → KeyLatchStands self.new (Shown keys.now ∷ past) }
-        ensures counts { (past : List KeyEntry) → KeyLatchStands self.old past → result ≡ counts_of keys.now past }
+        ensures counts { (past : List KeyEntry) → KeyLatchStands self.old past
+            → result ≡ counts_of keys.now past }
     {
         let mut offered = Offered::NOTHING;
         if *keys == self.last {
@@ -98,7 +99,8 @@ impl KeyLatch {
 
     /// Forgets the undelivered changes and the held keys, and keeps the set that was shown last.
     pub fn flush(&mut self)
-        ensures { (past : List KeyEntry) → KeyLatchStands self.old past → KeyLatchStands self.new (Flushed ∷ past) }
+        ensures { (past : List KeyEntry) → KeyLatchStands self.old past
+            → KeyLatchStands self.new (Flushed ∷ past) }
     {
         self.waiting.clear();
         self.held = HeldKeys::new();
@@ -106,7 +108,8 @@ impl KeyLatch {
 
     /// Forgets everything, as if no key had ever been down.
     pub fn clear(&mut self)
-        ensures { (past : List KeyEntry) → KeyLatchStands self.old past → KeyLatchStands self.new (Cleared ∷ past) }
+        ensures { (past : List KeyEntry) → KeyLatchStands self.old past
+            → KeyLatchStands self.new (Cleared ∷ past) }
     {
         self.flush();
         self.last = KeySet::new();
@@ -145,7 +148,8 @@ impl KeyLatch {
     /// Offers the release of one key.
     fn release(&mut self, usage: u8, offered: &mut Offered)
         requires { offered.old.taken + offered.old.refused + 1 < 2 ^ 16 }
-        ensures step { key_state self.new offered.new ≡ step_of (key_state self.old offered.old) (Release usage) }
+        ensures step { key_state self.new offered.new
+            ≡ step_of (key_state self.old offered.old) (Release usage) }
         ensures one { offered.new.taken + offered.new.refused ≤ offered.old.taken + offered.old.refused + 1 }
     {
         if !self.held.has(usage) {
@@ -160,7 +164,8 @@ impl KeyLatch {
     fn press(&mut self, usage: u8, offered: &mut Offered)
         requires passed_on { IsTrue (is_passed_on usage) }
         requires room { offered.old.taken + offered.old.refused + 1 < 2 ^ 16 }
-        ensures step { key_state self.new offered.new ≡ step_of (key_state self.old offered.old) (Press usage) }
+        ensures step { key_state self.new offered.new
+            ≡ step_of (key_state self.old offered.old) (Press usage) }
         ensures one { offered.new.taken + offered.new.refused ≤ offered.old.taken + offered.old.refused + 1 }
     {
         if !self.can_press(usage) {

@@ -16,7 +16,8 @@ pub fn append<C: Drop>(waiting: &mut HeapCircularBuffer<C>, change: C)
 pub fn replace_last<C: Drop>(waiting: &mut HeapCircularBuffer<C>, change: C)
     requires some { 0 < length waiting.old.items }
     requires fits { length waiting.old.items ≤ waiting.old.capacity }
-    ensures { waiting.new ≡ buffer (take (length waiting.old.items - 1) waiting.old.items ++ change ∷ []) waiting.old.capacity }
+    ensures { waiting.new
+        ≡ buffer (take (length waiting.old.items - 1) waiting.old.items ++ change ∷ []) waiting.old.capacity }
 {
     let _ = waiting.pop_back();
     append(waiting, change);

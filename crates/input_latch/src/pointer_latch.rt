@@ -96,7 +96,8 @@ impl PointerLatch {
     pub fn take(&mut self) -> Option<PointerChange>
         ensures stands { (past : List PointerEntry) → PointerLatchStands self.old past
             → PointerLatchStands self.new (Took result ∷ past) }
-        ensures answer { (past : List PointerEntry) → PointerLatchStands self.old past → result ≡ next_change past }
+        ensures answer { (past : List PointerEntry) → PointerLatchStands self.old past
+            → result ≡ next_change past }
     {
         self.waiting.pop_front()
     }
@@ -166,7 +167,8 @@ impl PointerLatch {
     fn release(&mut self, button: u8, offered: &mut Offered)
         requires button { (1 ≤ button) × (button ≤ BUTTONS) }
         requires room { offered.old.taken + offered.old.refused + 1 < 2 ^ 16 }
-        ensures step { pointer_state self.new offered.new ≡ step_of (pointer_state self.old offered.old) (Release button) }
+        ensures step { pointer_state self.new offered.new
+            ≡ step_of (pointer_state self.old offered.old) (Release button) }
         ensures one { offered.new.taken + offered.new.refused ≤ offered.old.taken + offered.old.refused + 1 }
     {
         if !self.held.has(button) {
@@ -181,7 +183,8 @@ impl PointerLatch {
     fn press(&mut self, button: u8, offered: &mut Offered)
         requires button { (1 ≤ button) × (button ≤ BUTTONS) }
         requires room { offered.old.taken + offered.old.refused + 1 < 2 ^ 16 }
-        ensures step { pointer_state self.new offered.new ≡ step_of (pointer_state self.old offered.old) (Press button) }
+        ensures step { pointer_state self.new offered.new
+            ≡ step_of (pointer_state self.old offered.old) (Press button) }
         ensures one { offered.new.taken + offered.new.refused ≤ offered.old.taken + offered.old.refused + 1 }
     {
         if !self.has_free(2) {

@@ -45,12 +45,15 @@ pub fn write_turn<D: Desk>(
     requires bytes { (port : ℕ) → IsPort port → bytes_at tally.old port + PORT_LINE_SIZE < 2 ^ 64 }
     requires left { tally.old.left + NOTES_MAX < 2 ^ 32 }
     requires refused { tally.old.refused + NOTES_MAX < 2 ^ 32 }
-    ensures wrote { (to : Outlet) → WroteTo to result (D.told desk.old) (D.told desk.new) (turn_text to turn.now.line tick turn.now.notes.items) }
+    ensures wrote { (to : Outlet)
+        → WroteTo to result (D.told desk.old) (D.told desk.new) (turn_text to turn.now.line tick turn.now.notes.items) }
     ensures short { (port : ℕ) → length (text_at port turn.now.line) ≤ PORT_LINE_SIZE }
     ensures stop { IfErr result (IsTextFault (D.told desk.old) (D.told desk.new)) }
-    ensures counted { OnOk result ((port : ℕ) → IsPort port → bytes_at tally.new port ≡ bytes_at tally.old port + length (text_at port turn.now.line)) }
+    ensures counted { OnOk result ((port : ℕ) → IsPort port → bytes_at tally.new port
+        ≡ bytes_at tally.old port + length (text_at port turn.now.line)) }
     ensures left { OnOk result (tally.new.left ≡ tally.old.left + number_of is_leave turn.now.notes.items) }
-    ensures refused { OnOk result (tally.new.refused ≡ tally.old.refused + number_of is_refusal turn.now.notes.items) }
+    ensures refused { OnOk result (tally.new.refused
+        ≡ tally.old.refused + number_of is_refusal turn.now.notes.items) }
     ensures few_left { OnOk result (tally.new.left ≤ tally.old.left + NOTES_MAX) }
     ensures few_refused { OnOk result (tally.new.refused ≤ tally.old.refused + NOTES_MAX) }
     ensures only { OnlyWritesTexts (D.told desk.old) (D.told desk.new) }
@@ -67,11 +70,13 @@ fn write_line<D: Desk>(
     tally: &mut Tally,
 ) -> Result<(), Stop>
     requires { (port : ℕ) → IsPort port → bytes_at tally.old port + PORT_LINE_SIZE < 2 ^ 64 }
-    ensures wrote { (port : ℕ) → WroteTo (Outlet.Port port) result (D.told desk.old) (D.told desk.new) (text_at port line.now) }
+    ensures wrote { (port : ℕ)
+        → WroteTo (Outlet.Port port) result (D.told desk.old) (D.told desk.new) (text_at port line.now) }
     ensures log { (D.told desk.new).sent Outlet.Log ≡ (D.told desk.old).sent Outlet.Log }
     ensures short { (port : ℕ) → length (text_at port line.now) ≤ PORT_LINE_SIZE }
     ensures stop { IfErr result (IsTextFault (D.told desk.old) (D.told desk.new)) }
-    ensures counted { OnOk result ((port : ℕ) → IsPort port → bytes_at tally.new port ≡ bytes_at tally.old port + length (text_at port line.now)) }
+    ensures counted { OnOk result ((port : ℕ) → IsPort port → bytes_at tally.new port
+        ≡ bytes_at tally.old port + length (text_at port line.now)) }
     ensures left { tally.new.left ≡ tally.old.left }
     ensures refused { tally.new.refused ≡ tally.old.refused }
     ensures only { OnlyWritesTexts (D.told desk.old) (D.told desk.new) }
@@ -89,7 +94,8 @@ fn write_line<D: Desk>(
 /// Writes to one port's transcript.
 fn send_port<D: Desk>(desk: &mut D, port: PortId, bytes: &[u8]) -> Result<(), Stop>
     ensures wrote { WroteTo (Outlet.Port port) result (D.told desk.old) (D.told desk.new) bytes.now }
-    ensures apart { (other : ℕ) → other ≢ port → (D.told desk.new).sent (Outlet.Port other) ≡ (D.told desk.old).sent (Outlet.Port other) }
+    ensures apart { (other : ℕ) → other ≢ port → (D.told desk.new).sent (Outlet.Port other)
+        ≡ (D.told desk.old).sent (Outlet.Port other) }
     ensures log { (D.told desk.new).sent Outlet.Log ≡ (D.told desk.old).sent Outlet.Log }
     ensures stop { IfErr result (IsTextFault (D.told desk.old) (D.told desk.new)) }
     ensures only { OnlyWritesTexts (D.told desk.old) (D.told desk.new) }
@@ -105,10 +111,13 @@ fn write_text<D: Desk>(
     tally: &mut Tally,
 ) -> Result<(), Stop>
     requires { (port : ℕ) → IsPort port → bytes_at tally.old port + length text.now.items < 2 ^ 64 }
-    ensures wrote { (other : ℕ) → WroteTo (Outlet.Port other) result (D.told desk.old) (D.told desk.new) (if port == other then text.now.items else []) }
+    ensures wrote { (other : ℕ)
+        → WroteTo (Outlet.Port other) result (D.told desk.old) (D.told desk.new) (if port == other then text.now.items else []) }
     ensures log { (D.told desk.new).sent Outlet.Log ≡ (D.told desk.old).sent Outlet.Log }
     ensures stop { IfErr result (IsTextFault (D.told desk.old) (D.told desk.new)) }
-    ensures counted { OnOk result ((other : ℕ) → IsPort other → bytes_at tally.new other ≡ bytes_at tally.old other + length (if port == other then text.now.items else [])) }
+    ensures counted { OnOk result ((other : ℕ) → IsPort other
+        → bytes_at tally.new other
+        ≡ bytes_at tally.old other + length (if port == other then text.now.items else [])) }
     ensures left { tally.new.left ≡ tally.old.left }
     ensures refused { tally.new.refused ≡ tally.old.refused }
     ensures only { OnlyWritesTexts (D.told desk.old) (D.told desk.new) }
@@ -129,11 +138,13 @@ fn write_notes<D: Desk>(
     requires left { tally.old.left + NOTES_MAX < 2 ^ 32 }
     requires refused { tally.old.refused + NOTES_MAX < 2 ^ 32 }
     ensures wrote { WroteTo Outlet.Log result (D.told desk.old) (D.told desk.new) (notes_text tick notes.now.items) }
-    ensures ports { (port : ℕ) → (D.told desk.new).sent (Outlet.Port port) ≡ (D.told desk.old).sent (Outlet.Port port) }
+    ensures ports { (port : ℕ) → (D.told desk.new).sent (Outlet.Port port)
+        ≡ (D.told desk.old).sent (Outlet.Port port) }
     ensures stop { IfErr result (IsTextFault (D.told desk.old) (D.told desk.new)) }
     ensures counted { (port : ℕ) → bytes_at tally.new port ≡ bytes_at tally.old port }
     ensures left { OnOk result (tally.new.left ≡ tally.old.left + number_of is_leave notes.now.items) }
-    ensures refused { OnOk result (tally.new.refused ≡ tally.old.refused + number_of is_refusal notes.now.items) }
+    ensures refused { OnOk result (tally.new.refused
+        ≡ tally.old.refused + number_of is_refusal notes.now.items) }
     ensures few_left { OnOk result (tally.new.left ≤ tally.old.left + NOTES_MAX) }
     ensures few_refused { OnOk result (tally.new.refused ≤ tally.old.refused + NOTES_MAX) }
     ensures only { OnlyWritesTexts (D.told desk.old) (D.told desk.new) }

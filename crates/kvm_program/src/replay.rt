@@ -73,7 +73,8 @@ impl Server {
         requires known { HappensWithin (port_total self.old.switch) (happening_of event.now.what) }
         requires few { self.old.switch.served < EVENTS_MAX }
         requires room { HasRoom self.old.tally self.old.switch.served }
-        ensures stands { (past : List Seen) → StandsFor self.old.switch past → StandsFor self.new.switch (seen event.now ∷ past) }
+        ensures stands { (past : List Seen) → StandsFor self.old.switch past
+            → StandsFor self.new.switch (seen event.now ∷ past) }
         ensures wrote { (past : List Seen) → StandsFor self.old.switch past → (to : Outlet) →
             WroteTo to result (D.told desk.old) (D.told desk.new) (step_text to (seen event.now) past) }
         ensures counted { (past : List Seen) → StandsFor self.old.switch past → Counts self.old.tally past
@@ -98,13 +99,17 @@ impl Server {
     fn serve_next<D: Desk>(&mut self, reader: &mut Reader, desk: &mut D) -> Result<bool, Stop>
         requires { IsReady reader.old self.old.switch self.old.tally }
         ensures ready { result ≡ Ok true → IsReady reader.new self.new.switch self.new.tally }
-        ensures counted { result ≡ Ok true → (reader.new.served ≡ reader.old.served + 1) × (reader.new.served ≤ reader.old.limit) }
-        ensures same { OnOk result ((reader.new.limit ≡ reader.old.limit) × (reader.new.ports ≡ reader.old.ports)) }
+        ensures counted { result ≡ Ok true → (reader.new.served ≡ reader.old.served + 1)
+            × (reader.new.served ≤ reader.old.limit) }
+        ensures same { OnOk result ((reader.new.limit ≡ reader.old.limit)
+            × (reader.new.ports ≡ reader.old.ports)) }
         ensures going { result ≡ Ok true → (coming : Option Schedule) (start : Told) →
             ProgressOf coming start reader.old (D.told desk.old) self.old.switch self.old.tally →
             ProgressOf coming start reader.new (D.told desk.new) self.new.switch self.new.tally }
-        ensures ended { result ≡ Ok false → IfSome (rest_told reader.old (D.told desk.old)) (λ left. left ≡ over None) }
-        ensures idle { result ≡ Ok false → ((outlet : Outlet) → (D.told desk.new).sent outlet ≡ (D.told desk.old).sent outlet)
+        ensures ended { result ≡ Ok false → IfSome (rest_told reader.old (D.told desk.old)) (λ left. left
+            ≡ over None) }
+        ensures idle { result ≡ Ok false → ((outlet : Outlet)
+            → (D.told desk.new).sent outlet ≡ (D.told desk.old).sent outlet)
             × (self.new.switch ≡ self.old.switch) × (self.new.tally ≡ self.old.tally) }
         ensures written { IfErr result (λ stop. (schedule : Schedule) (start : Told) (to : Outlet) →
             ProgressOf (Some schedule) start reader.old (D.told desk.old) self.old.switch self.old.tally →

@@ -17,7 +17,8 @@ pub const RULES_READ: usize = RULES_FILE_SIZE + 1;
 
 /// Reads the rules and judges them. Memory for them is taken before they are read.
 pub fn take_rules<D: Desk>(alloc: Global, desk: &mut D) -> Result<RuleSet, Stop>
-    ensures rules { IfOk result (λ rules. IfSome ((D.told desk.old).left Input.Rules) (λ bytes. rules_of bytes ≡ Ok (lists_of rules))) }
+    ensures rules { IfOk result (λ rules. IfSome ((D.told desk.old).left Input.Rules)
+        (λ bytes. rules_of bytes ≡ Ok (lists_of rules))) }
     ensures stop { IfErr result (RulesStop (D.told desk.old) (D.told desk.new)) }
     ensures only { OnlyReads Input.Rules (D.told desk.old) (D.told desk.new) }
 {
@@ -39,7 +40,8 @@ fn judge(alloc: Global, bytes: &[u8]) -> Result<RuleSet, Stop>
 
 /// Reads the rules up to their end, or up to `RULES_READ` bytes.
 fn read_rule_file<D: Desk>(alloc: Global, desk: &mut D) -> Result<Vec<u8>, Stop>
-    ensures bytes { IfOk result (λ bytes. IfSome ((D.told desk.old).left Input.Rules) (λ all. bytes.items ≡ front_of all)) }
+    ensures bytes { IfOk result (λ bytes. IfSome ((D.told desk.old).left Input.Rules) (λ all. bytes.items
+        ≡ front_of all)) }
     ensures stop { IfErr result (FileStops (D.told desk.old) (D.told desk.new)) }
     ensures only { OnlyReads Input.Rules (D.told desk.old) (D.told desk.new) }
 {
@@ -58,7 +60,8 @@ fn room_for_rules(alloc: Global) -> Result<Vec<u8>, AllocError>
 
 /// Reads the rules into this room, and gives the bytes that there are.
 fn read_into<D: Desk>(desk: &mut D, room: Vec<u8>) -> Result<Vec<u8>, Stop>
-    ensures bytes { IfOk result (λ bytes. IfSome ((D.told desk.old).left Input.Rules) (λ all. bytes.items ≡ take (length room.items) all)) }
+    ensures bytes { IfOk result (λ bytes. IfSome ((D.told desk.old).left Input.Rules) (λ all. bytes.items
+        ≡ take (length room.items) all)) }
     ensures stop { IfErr result (FileStops (D.told desk.old) (D.told desk.new)) }
     ensures only { OnlyReads Input.Rules (D.told desk.old) (D.told desk.new) }
 {
@@ -71,7 +74,8 @@ fn read_into<D: Desk>(desk: &mut D, room: Vec<u8>) -> Result<Vec<u8>, Stop>
 /// Reads the rules to the front of `into`, up to their end or until it is full, and answers how many bytes there are.
 fn fill<D: Desk>(desk: &mut D, into: &mut [u8]) -> Result<usize, Stop>
     ensures within { IfOk result (λ count. count ≤ length into.old) }
-    ensures bytes { IfOk result (λ count. IfSome ((D.told desk.old).left Input.Rules) (λ all. take count into.new ≡ take (length into.old) all)) }
+    ensures bytes { IfOk result (λ count. IfSome ((D.told desk.old).left Input.Rules)
+        (λ all. take count into.new ≡ take (length into.old) all)) }
     ensures stop { IfErr result (FileStops (D.told desk.old) (D.told desk.new)) }
     ensures only { OnlyReads Input.Rules (D.told desk.old) (D.told desk.new) }
 {

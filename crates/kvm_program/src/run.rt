@@ -36,11 +36,14 @@ use switch_core::Switch;
 /// Serves all events.
 fn serve_events<D: Desk>(desk: &mut D, reader: &mut Reader, server: &mut Server) -> Result<(), Stop>
     requires { IsFresh reader.old server.old.switch server.old.tally }
-    ensures finished { OnOk result ((schedule : Schedule) → rest_told reader.old (D.told desk.old) ≡ Some schedule →
+    ensures finished { OnOk result ((schedule : Schedule) → rest_told reader.old (D.told desk.old)
+        ≡ Some schedule →
         Finished schedule (D.told desk.old) (D.told desk.new) server.new.switch server.new.tally) }
-    ensures written { IfErr result (λ stop. (schedule : Schedule) (to : Outlet) → rest_told reader.old (D.told desk.old) ≡ Some schedule →
+    ensures written { IfErr result (λ stop. (schedule : Schedule) (to : Outlet)
+        → rest_told reader.old (D.told desk.old) ≡ Some schedule →
         WroteAtStop stop (text_of to schedule.events) ((D.told desk.old).sent to) ((D.told desk.new).sent to)) }
-    ensures stop { IfErr result (λ stop. RunStops stop (λ _. ⊥) ⊥ (rest_told reader.old (D.told desk.old)) (D.told desk.old) (D.told desk.new)) }
+    ensures stop { IfErr result (λ stop. RunStops stop
+        (λ _. ⊥) ⊥ (rest_told reader.old (D.told desk.old)) (D.told desk.old) (D.told desk.new)) }
     ensures only { OnlyServes (D.told desk.old) (D.told desk.new) }
 {
     open_outlets(desk, reader.ports())?;
@@ -65,7 +68,8 @@ fn run<D: Desk>(desk: &mut D, reader: &mut Reader, server: &mut Server) -> Resul
     requires { IsFresh reader.old server.old.switch server.old.tally }
     ensures serves { (schedule : Schedule) → rest_told reader.old (D.told desk.old) ≡ Some schedule →
         Serves result (record { ports = reader.old.ports; schedule = schedule }) (D.told desk.old) (D.told desk.new) }
-    ensures stop { IfErr result (λ stop. RunStops stop (λ _. ⊥) ⊥ (rest_told reader.old (D.told desk.old)) (D.told desk.old) (D.told desk.new)) }
+    ensures stop { IfErr result (λ stop. RunStops stop
+        (λ _. ⊥) ⊥ (rest_told reader.old (D.told desk.old)) (D.told desk.old) (D.told desk.new)) }
     ensures faults { (D.told desk.new).sent Outlet.Faults ≡ (D.told desk.old).sent Outlet.Faults }
     ensures only { OnlyReplays (D.told desk.old) (D.told desk.new) }
 {
@@ -78,7 +82,8 @@ fn run<D: Desk>(desk: &mut D, reader: &mut Reader, server: &mut Server) -> Resul
 
 /// Replays the capture and the script from their first bytes. All memory is taken before they are read.
 fn replay_events<D: Desk>(alloc: Global, desk: &mut D) -> Result<Summary, Stop>
-    ensures serves { (run : Run) → run_told (D.told desk.old) ≡ Some run → Serves result run (D.told desk.old) (D.told desk.new) }
+    ensures serves { (run : Run) → run_told (D.told desk.old) ≡ Some run
+        → Serves result run (D.told desk.old) (D.told desk.new) }
     ensures stop { IfErr result (λ stop. RunStops stop (λ _. ⊥) (IsUnread (D.told desk.old) (D.told desk.new))
         (schedule_told EVENTS_MAX (D.told desk.old)) (D.told desk.old) (D.told desk.new)) }
     ensures faults { (D.told desk.new).sent Outlet.Faults ≡ (D.told desk.old).sent Outlet.Faults }
@@ -105,9 +110,11 @@ fn replay<D: Desk>(alloc: Global, desk: &mut D) -> Result<Summary, Stop>
 
 /// Does what the words say, and writes no fault line.
 fn obey<D: Desk>(alloc: Global, words: &Words, desk: &mut D) -> Result<Summary, Stop>
-    ensures replay { words.now ≡ words_of Command.Replay → Replays result (D.told desk.old) (D.told desk.new) }
+    ensures replay { words.now ≡ words_of Command.Replay
+        → Replays result (D.told desk.old) (D.told desk.new) }
     ensures check { words.now ≡ words_of Command.Check → Checks result (D.told desk.old) (D.told desk.new) }
-    ensures unknown { ((command : Command) → words.now ≢ words_of command) → (result ≡ Err Stop.Usage) × (desk.new ≡ desk.old) }
+    ensures unknown { ((command : Command) → words.now ≢ words_of command) → (result ≡ Err Stop.Usage)
+        × (desk.new ≡ desk.old) }
     ensures faults { (D.told desk.new).sent Outlet.Faults ≡ (D.told desk.old).sent Outlet.Faults }
     ensures counts { (to : Outlet) → (D.told desk.old).write_faults to ≤ (D.told desk.new).write_faults to }
 {
@@ -126,7 +133,8 @@ fn obey<D: Desk>(alloc: Global, words: &Words, desk: &mut D) -> Result<Summary, 
 /// replay that stops early writes a part of it, from its front. `check` judges the rules alone.
 pub fn kvm<D: Desk>(alloc: Global, words: &Words, desk: &mut D) -> Result<Summary, Stop>
     // What each command promises.
-    ensures replay { words.now ≡ words_of Command.Replay → Replays result (D.told desk.old) (D.told desk.new) }
+    ensures replay { words.now ≡ words_of Command.Replay
+        → Replays result (D.told desk.old) (D.told desk.new) }
     ensures check { words.now ≡ words_of Command.Check → Checks result (D.told desk.old) (D.told desk.new) }
 
     // Words that are no command move nothing.

@@ -35,7 +35,8 @@ impl Tally {
     pub fn add(&mut self, port: PortId, count: usize)
         requires { bytes_at self.old port + count < 2 ^ 64 }
         ensures counted { bytes_at self.new port ≡ bytes_at self.old port + count }
-        ensures others { (other : ℕ) → IsPort other → other ≢ port → bytes_at self.new other ≡ bytes_at self.old other }
+        ensures others { (other : ℕ) → IsPort other → other ≢ port
+            → bytes_at self.new other ≡ bytes_at self.old other }
         ensures left { self.new.left ≡ self.old.left }
         ensures refused { self.new.refused ≡ self.old.refused }
     {

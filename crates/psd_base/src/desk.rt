@@ -27,12 +27,14 @@ pub trait Desk {
         ensures within { IfOk result (λ count. count ≤ length into.old) }
         ensures moved { IfOk result (λ count. (told self.old).left from
             ≡ option_map (λ rest. take count into.new ++ rest) ((told self.new).left from)) }
-        ensures ended { result ≡ Ok 0 → 0 < length into.old → IfSome ((told self.old).left from) (λ rest. rest ≡ []) }
+        ensures ended { result ≡ Ok 0 → 0 < length into.old → IfSome ((told self.old).left from)
+            (λ rest. rest ≡ []) }
         ensures stays { OnErr result ((told self.new).left from ≡ (told self.old).left from) }
         ensures failed { OnErr result (ReadFailed from (told self.old) (told self.new)) }
 
         // A read that succeeded counts no failure.
-        ensures uncounted { OnOk result ((input : Input) → (told self.new).read_faults input ≡ (told self.old).read_faults input) }
+        ensures uncounted { OnOk result ((input : Input) → (told self.new).read_faults input
+            ≡ (told self.old).read_faults input) }
 
         // Nothing else moves.
         ensures only { OnlyReads from (told self.old) (told self.new) };
@@ -45,7 +47,8 @@ pub trait Desk {
         ensures failed { OnErr result (WriteFailed to (told self.old) (told self.new)) }
 
         // A write that succeeded counts no failure.
-        ensures uncounted { OnOk result ((outlet : Outlet) → (told self.new).write_faults outlet ≡ (told self.old).write_faults outlet) }
+        ensures uncounted { OnOk result ((outlet : Outlet) → (told self.new).write_faults outlet
+            ≡ (told self.old).write_faults outlet) }
 
         // Nothing else moves.
         ensures only { OnlyWrites to (told self.old) (told self.new) };

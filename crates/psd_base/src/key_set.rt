@@ -121,7 +121,8 @@ impl KeySet {
     /// The least key of the set from `first` to `last`.
     pub fn least_between(&self, first: u8, last: u8) -> Option<u8>
         ensures none { IfNone result (keys_from self.now first (last + 1 - first) ≡ []) }
-        ensures some { IfSome result (λ usage. keys_from self.now first (last + 1 - first) ≡ usage ∷ keys_from self.now (usage + 1) (last - usage)) }
+        ensures some { IfSome result (λ usage. keys_from self.now first (last + 1 - first)
+            ≡ usage ∷ keys_from self.now (usage + 1) (last - usage)) }
         ensures inside { IfSome result (λ usage. (first ≤ usage) × (usage ≤ last)) }
     {
         let start = first as usize / 64;

@@ -88,7 +88,8 @@ impl MemoryDesk {
     /// Makes the write call of this number fail, and keep at most `kept` bytes. Write calls are numbered from 1,
     /// over all outlets. Of several entries for one call the first counts.
     pub fn fail_write(&mut self, call: u32, kept: u32) -> Result<(), AllocError>
-        ensures ok { OnOk result (self.new ≡ record self.old { writes = with_failing self.old.writes call kept }) }
+        ensures ok { OnOk result (self.new
+            ≡ record self.old { writes = with_failing self.old.writes call kept }) }
         ensures err { OnErr result (self.new ≡ self.old) }
     {
         self.writes.fail(call, kept)
@@ -125,18 +126,21 @@ impl Desk for MemoryDesk {
     fn read(&mut self, from: Input, into: &mut [u8]) -> Result<usize, DeskFailed>
         ensures listed { IsErr result ↔ IsSome (next_failure self.old.reads) }
         ensures given { IfOk result (λ count. count ≡ bytes_given self.old from (length into.old)) }
-        ensures put { IfOk result (λ count. into.new ≡ take count (left_of self.old from) ++ drop count into.old) }
+        ensures put { IfOk result (λ count. into.new
+            ≡ take count (left_of self.old from) ++ drop count into.old) }
         ensures after { IfOk result (λ count. self.new ≡ after_read self.old from count) }
         ensures untouched { OnErr result (into.new ≡ into.old) }
         ensures after_failure { OnErr result (self.new ≡ after_failed_read self.old from) }
 
         // The clauses of every desk.
         ensures within { IfOk result (λ count. count ≤ length into.old) }
-        ensures moved { IfOk result (λ count. left_of self.old from ≡ take count into.new ++ left_of self.new from) }
+        ensures moved { IfOk result (λ count. left_of self.old from
+            ≡ take count into.new ++ left_of self.new from) }
         ensures ended { result ≡ Ok 0 → 0 < length into.old → left_of self.old from ≡ [] }
         ensures stays { OnErr result (left_of self.new from ≡ left_of self.old from) }
         ensures failed { OnErr result (ReadFailed from (told_by self.old) (told_by self.new)) }
-        ensures uncounted { OnOk result ((input : Input) → (told_by self.new).read_faults input ≡ (told_by self.old).read_faults input) }
+        ensures uncounted { OnOk result ((input : Input) → (told_by self.new).read_faults input
+            ≡ (told_by self.old).read_faults input) }
         ensures only { OnlyReads from (told_by self.old) (told_by self.new) }
     {
         match self.reads.next() {
@@ -153,13 +157,16 @@ impl Desk for MemoryDesk {
     fn write(&mut self, to: Outlet, bytes: &[u8]) -> Result<(), DeskFailed>
         ensures fails { IsErr result ↔ WriteFails self.old to bytes.now }
         ensures after { OnOk result (self.new ≡ after_write self.old to bytes.now) }
-        ensures after_failure { OnErr result (self.new ≡ after_failed_write self.old to (take (bytes_kept self.old to bytes.now) bytes.now)) }
+        ensures after_failure { OnErr result (self.new
+            ≡ after_failed_write self.old to (take (bytes_kept self.old to bytes.now) bytes.now)) }
 
         // The clauses of every desk.
         ensures appended { OnOk result (bytes_sent self.new to ≡ bytes_sent self.old to ++ bytes.now) }
-        ensures part { OnErr result (bytes_sent self.new to ≡ bytes_sent self.old to ++ take (bytes_kept self.old to bytes.now) bytes.now) }
+        ensures part { OnErr result (bytes_sent self.new to
+            ≡ bytes_sent self.old to ++ take (bytes_kept self.old to bytes.now) bytes.now) }
         ensures failed { OnErr result (WriteFailed to (told_by self.old) (told_by self.new)) }
-        ensures uncounted { OnOk result ((outlet : Outlet) → (told_by self.new).write_faults outlet ≡ (told_by self.old).write_faults outlet) }
+        ensures uncounted { OnOk result ((outlet : Outlet) → (told_by self.new).write_faults outlet
+            ≡ (told_by self.old).write_faults outlet) }
         ensures only { OnlyWrites to (told_by self.old) (told_by self.new) }
     {
         let place = outlet_place(&to);

@@ -55,8 +55,10 @@ pub struct Buffered<F> {
 impl<F: Write> Buffered<F> {
     /// Lets these bytes wait, and answers whether there was room for them. It takes no memory.
     fn hold(&mut self, bytes: &[u8]) -> bool
-        ensures fits { length self.old.waiting.items + length bytes.now ≤ vec_capacity self.old.waiting → IsTrue result }
-        ensures waiting { self.new.waiting.items ≡ (if result then self.old.waiting.items ++ bytes.now else self.old.waiting.items) }
+        ensures fits { length self.old.waiting.items + length bytes.now ≤ vec_capacity self.old.waiting
+            → IsTrue result }
+        ensures waiting { self.new.waiting.items
+            ≡ (if result then self.old.waiting.items ++ bytes.now else self.old.waiting.items) }
         ensures room { vec_capacity self.old.waiting ≤ vec_capacity self.new.waiting }
     {
         bytes.len() <= self.waiting.capacity() - self.waiting.len()
