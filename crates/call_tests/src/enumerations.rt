@@ -12,7 +12,6 @@ use console_host::{Attachment, Next};
 use peripheral_filter::{RULES_MAX, Rule, RuleSet};
 use psd_base::console::{Note, Notes, Order, Plug, RuleName};
 use std::alloc::{AllocError, Global};
-use std::process::Abort;
 use std::test::Fail;
 
 /// The bytes with a name.

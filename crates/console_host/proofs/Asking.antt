@@ -1,13 +1,11 @@
 -- The numbers of the orders for report descriptors, and of the turns of interfaces that aren't asked.
-use Rattle.std.proofs.Common.{◌≡◌, ℕ, ◌+◌, ◌-◌, ◌<◌, ◌≤◌, ◌==◌, Bool, true, false, cond, List, [], ◌∷◌, ◌++◌, length, Option, Some, None, refl, ap, sym, subst, ◌∙◌, arith}
+use Rattle.std.proofs.Common.{◌≡◌, ℕ, ◌+◌, ◌<◌, ◌≤◌, ◌==◌, true, false, cond, List, [], ◌∷◌, length, Option, Some, None, refl, ap, subst, arith}
 use Rattle.std.proofs.lemmas.Bool.{eqb-true}
 use Rattle.std.proofs.lemmas.Bool.Decides.{nat_tests}
-use Rattle.std.specs.Prelude.{filter, map}
+use Rattle.std.specs.Prelude.{filter}
 use Rattle.std.specs.List.{find}
 use Rattle.std.specs.Option.{option_map}
 use Rattle.psd_base.specs.declared.console.Plug.{Plug}
-use Rattle.psd_base.specs.declared.console.RuleName.{RuleName}
-use Rattle.psd_base.specs.declared.setup.Setup.{Setup}
 use Rattle.console_host.specs.declared.order.TheConstants.{DEVICE, ADDRESS, HEAD, CONFIGURATION, CONFIGURE}
 use Rattle.console_host.specs.declared.fit.Fit.{Fit}
 use Rattle.console_host.specs.declared.fit.ReportAsk.{ReportAsk}
@@ -92,24 +90,33 @@ pub found-none : (plug : Plug) (earlier : List Reply) (reply : Reply) → length
 found-none plug earlier reply h =
     ap (λ (ask : Option ReportAsk). found_by plug ask reply) (no-ask (length earlier + 1) CONFIGURE (fits plug (answered CONFIGURATION earlier)) h)
 
+-- the tests on the numbers of the first five orders
+record IsLate (n : ℕ) : Type 0 where
+  device : (n == DEVICE) ≡ false
+  address : (n == ADDRESS) ≡ false
+  head : (n == HEAD) ≡ false
+  configuration : (n == CONFIGURATION) ≡ false
+  configure : (n == CONFIGURE) ≡ false
+
+late : (n : ℕ) → CONFIGURE < n → IsLate n
+late n h = record {
+  device = grind (arith, nat_tests);
+  address = grind (arith, nat_tests);
+  head = grind (arith, nat_tests);
+  configuration = grind (arith, nat_tests);
+  configure = grind (arith, nat_tests);
+}
+
 -- behind the order that chooses the configuration, only report descriptors are asked for
 pub next-late : (plug : Plug) (replies : List Reply) (n : ℕ) → length replies + 1 ≡ n → CONFIGURE < n
     → next_order plug replies ≡ option_map get_report (report_ask n plug replies)
 next-late plug replies n is h =
-    let a : (n == DEVICE) ≡ false = grind (arith, nat_tests) in
-    let b : (n == ADDRESS) ≡ false = grind (arith, nat_tests) in
-    let c : (n == HEAD) ≡ false = grind (arith, nat_tests) in
-    let d : (n == CONFIGURATION) ≡ false = grind (arith, nat_tests) in
-    let e : (n == CONFIGURE) ≡ false = grind (arith, nat_tests) in
-    rw (is, a, b, c, d, e)
+    let tests : IsLate n = late n h in
+    rw (is, tests.device, tests.address, tests.head, tests.configuration, tests.configure)
 
 -- and a reply can refuse the device by its failure alone
 pub rules-late : (plug : Plug) (rules : RuleSet) (before : Option Descriptors) (earlier : List Reply) (reply : Reply) (n : ℕ) → length earlier + 1 ≡ n → CONFIGURE < n
     → rules_at plug rules before earlier reply ≡ silence_rules reply.status
 rules-late plug rules before earlier reply n is h =
-    let a : (n == DEVICE) ≡ false = grind (arith, nat_tests) in
-    let b : (n == ADDRESS) ≡ false = grind (arith, nat_tests) in
-    let c : (n == HEAD) ≡ false = grind (arith, nat_tests) in
-    let d : (n == CONFIGURATION) ≡ false = grind (arith, nat_tests) in
-    let e : (n == CONFIGURE) ≡ false = grind (arith, nat_tests) in
-    rw (is, a, b, c, d, e)
+    let tests : IsLate n = late n h in
+    rw (is, tests.device, tests.address, tests.head, tests.configuration, tests.configure)

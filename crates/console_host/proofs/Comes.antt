@@ -1,42 +1,28 @@
 -- What a reply to the outstanding order comes to is what the plan says.
-use Rattle.std.proofs.Common.{◌≡◌, ℕ, ◌+◌, ◌-◌, ◌<◌, ◌≤◌, ◌==◌, Bool, true, false, cond, List, [], ◌∷◌, ◌++◌, length, map, filter, Option, Some, None, unwrap_or, Result, Ok, Err, refl, ap, sym, subst, ◌∙◌, arith, append-nil}
+use Rattle.std.proofs.Common.{◌≡◌, ◌+◌, ◌<◌, ◌==◌, Bool, false, cond, List, [], ◌∷◌, ◌++◌, length, map, filter, Option, None, refl, ap, sym, ◌∙◌, arith}
 use Rattle.std.proofs.lemmas.Bool.Decides.{nat_tests}
-use Rattle.std.specs.Prelude.{nat_lt}
-use Rattle.std.specs.List.{find}
-use Rattle.psd_base.specs.History.{or_else}
 use Rattle.psd_base.specs.declared.console.Plug.{Plug}
-use Rattle.psd_base.specs.declared.console.Plug.TheVariants.{Keyboard, Mouse, Token}
 use Rattle.psd_base.specs.declared.console.RuleName.{RuleName}
 use Rattle.psd_base.specs.declared.console.Note.{Note}
-use Rattle.psd_base.specs.declared.setup.Setup.{Setup}
 use Rattle.usb_descriptor.specs.declared.device.DeviceDesc.{DeviceDesc}
 use Rattle.usb_descriptor.specs.Device.{device_of, word_at}
 use Rattle.usb_descriptor.specs.View.{configuration_value}
-use Rattle.hid_report.specs.Reading.{Reading}
-use Rattle.peripheral_filter.specs.declared.rule.RuleSet.{RuleSet}
 use Rattle.peripheral_filter.specs.declared.rule.Verdict.{Verdict}
 use Rattle.peripheral_filter.specs.declared.rule.Verdict.TheVariants.{Accepted, Refused}
-use Rattle.peripheral_filter.specs.declared.fixed.TheConstants.{NO_INTERFACE}
-use Rattle.peripheral_filter.specs.Verdicts.{first_that_holds}
 use Rattle.console_host.specs.declared.attachment.Attachment.{Attachment}
-use Rattle.console_host.specs.declared.fit.Fit.{Fit}
-use Rattle.console_host.specs.declared.fit.ReportAsk.{ReportAsk}
-use Rattle.console_host.specs.declared.fit.TheConstants.{INTERFACES_MAX}
-use Rattle.console_host.specs.declared.interface.Interface.{Interface}
-use Rattle.console_host.specs.declared.order.TheConstants.{DEVICE, ADDRESS, HEAD, CONFIGURATION, CONFIGURE}
+use Rattle.console_host.specs.declared.order.TheConstants.{CONFIGURATION, CONFIGURE}
 use Rattle.console_host.specs.declared.step.Step.{Step}
 use Rattle.console_host.specs.declared.step.Step.TheVariants as step
 use Rattle.console_host.specs.declared.step.Outcome.{Outcome}
 use Rattle.console_host.specs.declared.step.Outcome.TheVariants as outcome
 use Rattle.console_host.specs.Replies.{Reply, answered}
-use Rattle.console_host.specs.Orders.{get_report}
-use Rattle.console_host.specs.Fits.{fits, misfits, asks_from, barred_from, barred_note, Barred}
-use Rattle.console_host.specs.Judging.{device_step, head_step, configuration_step, status_rules, silence_rules, finding, lesser, least_from}
-use Rattle.console_host.specs.Plan.{Plan, Asks, IsReady, Refuses, rule_of, refusal, plan_by, goes_on, next_order, conclusion, by_interfaces, is_none, report_ask, report_asks, Found, found_at, found_by, found_notes, listed_by, refused_by, accepted_in, refused_in, refusals, interface_notes, standing_notes, descriptors_in, shape_in}
-use Rattle.console_host.specs.Machine.{number_of, setup_of, unless_refused, device_outcome, with_device, plain_outcome, head_outcome, with_configuration, configuration_notes, with_finding, finding_notes, outcome_by, outcome_at_end, turn_by, turn_outcome, turn_notes, configured_outcome, configured_notes, after_report, report_outcome, report_notes, outcome_of, judged, judged_notes, shape_of}
+use Rattle.console_host.specs.Fits.{fits, misfits, barred_from, barred_note, Barred}
+use Rattle.console_host.specs.Judging.{least_from}
+use Rattle.console_host.specs.Plan.{Asks, IsReady, Refuses, rule_of, plan_by, Found, found_at, found_notes, accepted_in, refused_in, interface_notes, standing_notes}
+use Rattle.console_host.specs.Machine.{number_of, setup_of, unless_refused, device_outcome, with_device, plain_outcome, head_outcome, with_configuration, configuration_notes, shape_of}
 use Rattle.console_host.specs.Stands.{HasDevice, HasRead, StepStands}
-use Rattle.console_host.proofs.Asking.{no-ask, found-number, found-few, no-barred, answered-later, found-none, next-late}
-use Rattle.console_host.proofs.Accepting.{accepted-early, refused-early, accepted-few, least-append}
+use Rattle.console_host.proofs.Asking.{no-barred, found-none}
+use Rattle.console_host.proofs.Accepting.{accepted-early, refused-early}
 
 -- the next order is outstanding
 pub record GoesOn (plug : Plug) (replies : List Reply) (attachment : Attachment) (refused : Option RuleName) (after : Step) : Type 0 where

@@ -1,29 +1,23 @@
 -- What a reply to the outstanding order comes to, whatever that order is.
-use Rattle.std.proofs.Common.{◌≡◌, ℕ, ◌+◌, ◌≤◌, ◌==◌, Bool, true, false, cond, List, [], ◌∷◌, ◌++◌, length, Option, Some, None, refl, ap, sym, subst, ◌∙◌, arith}
+use Rattle.std.proofs.Common.{◌≡◌, ℕ, ◌+◌, ◌≤◌, List, [], ◌∷◌, length, Option, None, refl, ap, sym, subst, ◌∙◌, arith}
 use Rattle.std.specs.Prelude.{nat_lt}
 use Rattle.psd_base.specs.History.{or_else}
 use Rattle.psd_base.specs.declared.console.RuleName.{RuleName}
-use Rattle.psd_base.specs.declared.console.Note.{Note}
 use Rattle.usb_descriptor.specs.declared.device.DeviceDesc.{DeviceDesc}
-use Rattle.usb_descriptor.specs.Device.{device_of, word_at}
+use Rattle.usb_descriptor.specs.Device.{device_of}
 use Rattle.peripheral_filter.specs.declared.rule.RuleSet.{RuleSet}
 use Rattle.peripheral_filter.specs.declared.rule.Verdict.{Verdict}
 use Rattle.peripheral_filter.specs.Verdicts.{first_that_holds}
 use Rattle.console_host.specs.declared.attachment.Attachment.{Attachment}
-use Rattle.console_host.specs.declared.descriptors.Descriptors.{Descriptors}
-use Rattle.console_host.specs.declared.fit.ReportAsk.{ReportAsk}
 use Rattle.console_host.specs.declared.fit.TheConstants.{INTERFACES_MAX}
-use Rattle.console_host.specs.declared.order.TheConstants.{DEVICE, ADDRESS, HEAD, CONFIGURATION, CONFIGURE}
 use Rattle.console_host.specs.declared.status.TheConstants.{STALL}
 use Rattle.console_host.specs.declared.step.Step.{Step}
 use Rattle.console_host.specs.declared.step.Step.TheVariants as step
-use Rattle.console_host.specs.declared.step.Outcome.{Outcome}
-use Rattle.console_host.specs.Replies.{Reply, answered}
-use Rattle.console_host.specs.Judging.{device_step, head_step, configuration_step, status_rules, silence_rules, least_from}
-use Rattle.console_host.specs.Plan.{refusal, rule_of, rules_at, refused_in, accepted_in, report_ask}
-use Rattle.console_host.specs.Machine.{number_of, setup_of, outcome_of, judged, judged_notes, status_verdict, configuration_verdict}
-use Rattle.console_host.specs.Lives.{Life}
-use Rattle.console_host.specs.Stands.{HasRead, StepStands, WaitsFor}
+use Rattle.console_host.specs.Replies.{Reply}
+use Rattle.console_host.specs.Judging.{device_step, head_step, configuration_step, silence_rules, least_from}
+use Rattle.console_host.specs.Plan.{refusal, rule_of, rules_at, refused_in, accepted_in}
+use Rattle.console_host.specs.Machine.{number_of, outcome_of, judged, judged_notes, status_verdict, configuration_verdict}
+use Rattle.console_host.specs.Stands.{StepStands}
 use Rattle.console_host.proofs.Asking.{rules-late}
 use Rattle.console_host.proofs.Comes.{Turns, device-turns, address-turns, head-turns, configuration-turns}
 use Rattle.console_host.proofs.Turning.{configured-turns, report-turns}

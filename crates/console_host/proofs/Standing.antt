@@ -1,9 +1,7 @@
 -- An attachment goes on to stand for the calls that are made on it.
-use Rattle.std.proofs.Common.{◌≡◌, ℕ, ◌+◌, ◌≤◌, ◌==◌, Bool, true, false, cond, not, List, [], ◌∷◌, ◌++◌, length, Option, Some, None, refl, ap, sym, subst, ◌∙◌, arith}
+use Rattle.std.proofs.Common.{◌≡◌, ℕ, ◌+◌, ◌≤◌, ◌==◌, Bool, true, false, cond, not, List, [], ◌∷◌, ◌++◌, length, Option, Some, None, refl, ap, sym, subst, ◌∙◌}
 use Rattle.std.proofs.lemmas.Bool.{eqb-true}
-use Rattle.std.proofs.lemmas.Bool.Decides.{nat_tests}
-use Rattle.std.specs.Prelude.{◌&&◌, nat_le}
-use Rattle.std.specs.Option.{option_map}
+use Rattle.std.specs.Prelude.{◌&&◌}
 use Rattle.psd_base.specs.History.{or_else}
 use Rattle.psd_base.specs.declared.console.Plug.{Plug}
 use Rattle.psd_base.specs.declared.console.RuleName.{RuleName}
@@ -14,10 +12,8 @@ use Rattle.peripheral_filter.specs.declared.rule.RuleSet.{RuleSet}
 use Rattle.console_host.specs.declared.attachment.Attachment.{Attachment}
 use Rattle.console_host.specs.declared.descriptors.Descriptors.{Descriptors}
 use Rattle.console_host.specs.declared.fit.TheConstants.{INTERFACES_MAX}
-use Rattle.console_host.specs.declared.next.Next.{Next}
 use Rattle.console_host.specs.declared.next.Next.TheVariants as next
-use Rattle.console_host.specs.declared.next.TheConstants.{SILENCE}
-use Rattle.console_host.specs.declared.order.TheConstants.{DEVICE, CONFIGURATION}
+use Rattle.console_host.specs.declared.order.TheConstants.{DEVICE}
 use Rattle.console_host.specs.declared.step.Step.{Step}
 use Rattle.console_host.specs.declared.step.Step.TheVariants as step
 use Rattle.console_host.specs.declared.step.Phase.{Phase}
@@ -25,11 +21,11 @@ use Rattle.console_host.specs.declared.step.Phase.TheVariants as phase
 use Rattle.console_host.specs.declared.step.Outcome.{Outcome}
 use Rattle.console_host.specs.declared.step.Outcome.TheVariants as outcome
 use Rattle.console_host.specs.Replies.{Reply, answered}
-use Rattle.console_host.specs.Plan.{Plan, Asks, IsReady, Refuses, plan, plan_by, refusal, accepted_in, notes_of, standing_notes, device_notes, descriptors_in, shape_in}
-use Rattle.console_host.specs.Machine.{number_of, setup_of, outcome_of, judged, judged_notes, with_known, settled, settled_notes, settled_next, awaited, answered_with, answered_next, answered_notes, is_overdue}
-use Rattle.console_host.specs.Lives.{Life, Standing, plan_of, asks, is_ready, is_waiting, counts, with_reply, newly_accepted, after_counted, after_reply, after_tick, is_silent, is_silent_in, new_life, next_by, next_in, notes_in}
-use Rattle.console_host.specs.Stands.{HasDevice, HasRead, StepStands, WaitsFor, IsAccepted, HasEnded, PhaseStands, StandsAt}
-use Rattle.console_host.proofs.Comes.{GoesOn, IsDone, Comes, Turns}
+use Rattle.console_host.specs.Plan.{Plan, IsReady, Refuses, plan, refusal, accepted_in, notes_of, standing_notes, device_notes, descriptors_in}
+use Rattle.console_host.specs.Machine.{number_of, setup_of, outcome_of, judged, judged_notes, with_known, settled, settled_notes, settled_next, awaited, answered_with, answered_next, answered_notes}
+use Rattle.console_host.specs.Lives.{Life, Standing, plan_of, asks, is_ready, is_waiting, counts, with_reply, newly_accepted, after_counted, after_reply, new_life, next_by, next_in, notes_in}
+use Rattle.console_host.specs.Stands.{HasDevice, HasRead, StepStands, WaitsFor, PhaseStands, StandsAt}
+use Rattle.console_host.proofs.Comes.{GoesOn, Comes, Turns}
 use Rattle.console_host.proofs.Judged.{judged-turns}
 
 or_else-none : (first : Option Descriptors) → first ≡ or_else first None

@@ -1,5 +1,5 @@
 -- An attachment at a tick of the clock.
-use Rattle.std.proofs.Common.{◌≡◌, ℕ, ◌+◌, ◌≤◌, Bool, true, false, cond, not, List, [], ◌∷◌, length, Option, Some, None, refl, ap, sym, subst, ◌∙◌}
+use Rattle.std.proofs.Common.{◌≡◌, ℕ, ◌+◌, Bool, true, false, cond, Option, Some, None, refl, ap, sym, subst, ◌∙◌}
 use Rattle.std.specs.Prelude.{◌&&◌, nat_le}
 use Rattle.std.specs.Option.{option_map}
 use Rattle.psd_base.specs.declared.console.Plug.{Plug}
@@ -12,7 +12,7 @@ use Rattle.console_host.specs.declared.step.Phase.{Phase}
 use Rattle.console_host.specs.declared.step.Phase.TheVariants as phase
 use Rattle.console_host.specs.Machine.{is_overdue}
 use Rattle.console_host.specs.Lives.{Life, Standing, asks, is_ready, is_waiting, after_tick, is_silent, is_silent_in}
-use Rattle.console_host.specs.Stands.{WaitsFor, HasEnded, PhaseStands, StandsAt}
+use Rattle.console_host.specs.Stands.{WaitsFor, PhaseStands, StandsAt}
 use Rattle.console_host.proofs.Standing.{waiting, not-waiting}
 
 -- what the tick finds, and what stands after it

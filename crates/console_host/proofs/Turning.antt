@@ -1,5 +1,5 @@
 -- What comes behind the order that chooses the configuration, and behind each report descriptor.
-use Rattle.std.proofs.Common.{◌≡◌, ℕ, ◌+◌, ◌-◌, ◌<◌, ◌≤◌, ◌==◌, Bool, true, false, cond, List, [], ◌∷◌, ◌++◌, length, map, filter, Option, Some, None, unwrap_or, Result, Ok, Err, refl, ap, sym, subst, ◌∙◌, arith, append-nil}
+use Rattle.std.proofs.Common.{◌≡◌, ℕ, ◌+◌, ◌≤◌, ◌==◌, Bool, true, false, cond, List, [], ◌∷◌, ◌++◌, length, map, filter, Option, Some, None, unwrap_or, Result, Ok, Err, refl, ap, sym, subst, ◌∙◌, arith, append-nil}
 use Rattle.std.proofs.lemmas.Bool.Decides.{nat_tests}
 use Rattle.std.specs.Prelude.{nat_lt}
 use Rattle.std.specs.List.{find}
@@ -7,7 +7,6 @@ use Rattle.std.specs.Option.{option_map}
 use Rattle.psd_base.specs.declared.console.Plug.{Plug}
 use Rattle.psd_base.specs.declared.console.Plug.TheVariants.{Keyboard, Mouse, Token}
 use Rattle.psd_base.specs.declared.console.RuleName.{RuleName}
-use Rattle.psd_base.specs.declared.console.Note.{Note}
 use Rattle.psd_base.specs.declared.setup.Setup.{Setup}
 use Rattle.usb_descriptor.specs.Device.{device_of}
 use Rattle.hid_report.specs.Reading.{Reading}
@@ -20,8 +19,6 @@ use Rattle.console_host.specs.declared.fit.ReportAsk.{ReportAsk}
 use Rattle.console_host.specs.declared.fit.TheConstants.{INTERFACES_MAX}
 use Rattle.console_host.specs.declared.interface.Interface.{Interface}
 use Rattle.console_host.specs.declared.order.TheConstants.{DEVICE, CONFIGURATION, CONFIGURE}
-use Rattle.console_host.specs.declared.step.Outcome.{Outcome}
-use Rattle.console_host.specs.declared.step.Outcome.TheVariants as outcome
 use Rattle.console_host.specs.declared.rules.TheConstants.{SILENT}
 use Rattle.console_host.specs.declared.status.TheConstants.{STALL}
 use Rattle.peripheral_filter.specs.Verdicts.{first_that_holds}
@@ -29,12 +26,12 @@ use Rattle.console_host.specs.Replies.{Reply, answered}
 use Rattle.console_host.specs.Orders.{get_report}
 use Rattle.console_host.specs.Fits.{fits, misfits, asks_from, barred_from, barred_note, barring_rules, Barred}
 use Rattle.console_host.specs.Judging.{finding, lesser, least_from}
-use Rattle.console_host.specs.Plan.{Plan, IsReady, Refuses, rule_of, plan_by, goes_on, next_order, conclusion, report_ask, Found, found_at, found_by, found_notes, listed_by, refused_by, accepted_in, refused_in, refusals, interface_notes, shape_in}
+use Rattle.console_host.specs.Plan.{IsReady, Refuses, rule_of, plan_by, goes_on, next_order, conclusion, report_ask, Found, found_at, found_by, found_notes, listed_by, refused_by, accepted_in, refused_in, refusals, interface_notes}
 use Rattle.console_host.specs.Machine.{with_finding, finding_notes, outcome_by, outcome_at_end, turn_by, turn_outcome, turn_notes, configured_outcome, configured_notes, after_report, report_outcome, report_notes, shape_of}
 use Rattle.console_host.specs.Stands.{HasRead}
 use Rattle.console_host.proofs.Asking.{found-number, found-few, answered-later, found-none, next-late}
 use Rattle.console_host.proofs.Accepting.{accepted-early, refused-early, accepted-few, least-append}
-use Rattle.console_host.proofs.Comes.{GoesOn, IsDone, Comes, Turns}
+use Rattle.console_host.proofs.Comes.{Comes, Turns}
 
 read-later : (plug : Plug) (attachment : Attachment) (earlier : List Reply) (reply : Reply) → CONFIGURATION ≤ length earlier
     → HasRead plug attachment earlier → HasRead plug attachment (reply ∷ earlier)

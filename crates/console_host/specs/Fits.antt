@@ -1,5 +1,5 @@
 -- The interfaces of a keyboard or a mouse that its plug is for, and when the turn of each comes.
-use Rattle.std.specs.Prelude.{ℕ, ◌+◌, ◌==◌, nat_lt, Bool, true, false, not, List, [], ◌∷◌, map, filter, Option, Some, None, slice_index, if◌then◌else◌}
+use Rattle.std.specs.Prelude.{ℕ, ◌+◌, ◌==◌, nat_lt, Bool, not, List, [], ◌∷◌, map, filter, Option, Some, None, slice_index, if◌then◌else◌}
 use Rattle.std.specs.List.{find, filter_map}
 use Rattle.psd_base.specs.declared.console.Plug.{Plug}
 use Rattle.psd_base.specs.declared.console.Plug.TheVariants.{Keyboard, Mouse, Token}

@@ -6,7 +6,6 @@ use Rattle.std.specs.List.{find}
 use Rattle.psd_base.specs.History.{or_else}
 use Rattle.psd_base.specs.declared.console.Plug.{Plug}
 use Rattle.psd_base.specs.declared.console.Note.{Note}
-use Rattle.psd_base.specs.declared.console.Order.{Order}
 use Rattle.psd_base.specs.declared.console.Order.TheVariants as order
 use Rattle.hid_report.specs.Reading.{Reading}
 use Rattle.peripheral_filter.specs.declared.rule.RuleSet.{RuleSet}

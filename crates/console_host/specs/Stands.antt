@@ -1,9 +1,8 @@
 -- What an attachment stands for: the calls that were made on it, newest first.
-use Rattle.std.specs.Prelude.{◌≡◌, ℕ, ◌+◌, ◌≤◌, Bool, true, false, List, [], ◌∷◌, length, Option, Some, None}
+use Rattle.std.specs.Prelude.{◌≡◌, ℕ, ◌+◌, ◌≤◌, false, List, [], ◌∷◌, length, Option, Some, None}
 use Rattle.psd_base.specs.declared.console.Plug.{Plug}
 use Rattle.usb_descriptor.specs.declared.device.DeviceDesc.{DeviceDesc}
 use Rattle.usb_descriptor.specs.Device.{word_at, device_of}
-use Rattle.usb_descriptor.specs.View.{configuration_value}
 use Rattle.peripheral_filter.specs.declared.rule.RuleSet.{RuleSet}
 use Rattle.console_host.specs.declared.attachment.Attachment.{Attachment}
 use Rattle.console_host.specs.declared.fit.TheConstants.{INTERFACES_MAX}
@@ -15,7 +14,7 @@ use Rattle.console_host.specs.declared.step.Phase.TheVariants as phase
 use Rattle.console_host.specs.Replies.{Reply, answered}
 use Rattle.console_host.specs.Fits.{fits}
 use Rattle.console_host.specs.Judging.{least_from}
-use Rattle.console_host.specs.Plan.{Plan, Asks, IsReady, refusal, refused_in, accepted_in, report_ask, shape_in}
+use Rattle.console_host.specs.Plan.{Asks, IsReady, refusal, refused_in, report_ask, shape_in}
 use Rattle.console_host.specs.Machine.{number_of, setup_of}
 use Rattle.console_host.specs.Lives.{Call, Life, Standing, standing, plan_of, is_waiting, is_ready, accepted_of}
 

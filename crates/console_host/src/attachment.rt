@@ -1,5 +1,5 @@
 //! The enumeration of one peripheral.
-ghost use Rattle.std.specs.Prelude.{◌≡◌, ℕ, ◌+◌, ◌≤◌, ◌++◌, List, [], ◌∷◌, length, IfSome, IsTrue, MatchOption, option_copied};
+ghost use Rattle.std.specs.Prelude.{◌≡◌, ◌+◌, ◌≤◌, ◌++◌, List, [], ◌∷◌, length, IfSome, IsTrue, MatchOption, option_copied};
 ghost use Rattle.peripheral_filter.specs.Steps.{is_packet_size};
 ghost use Rattle.psd_base.specs.declared.console.Plug.{Plug};
 ghost use Rattle.peripheral_filter.specs.declared.rule.RuleSet.{RuleSet};
@@ -71,7 +71,7 @@ pub struct Attachment {
 
 impl Attachment {
     ghost use Rattle.console_host.specs.Stands.{AttachmentStands};
-    ghost use Rattle.console_host.specs.Machine.{awaited, answered_with, answered_next, answered_notes, device_outcome, device_reading, with_device, head_outcome, head_reading, plain_outcome, configuration_verdict, with_configuration, configuration_notes, status_verdict, configured_outcome, configured_notes, silence_verdict, after_report, report_outcome, report_notes, turn_outcome, turn_notes, outcome_at_end, with_finding, finding_notes, settled, settled_next, settled_notes, with_known, judged, judged_notes, outcome_of, outcome_by, turn_by, is_overdue, number_of, setup_of};
+    ghost use Rattle.console_host.specs.Machine.{awaited, answered_with, answered_next, answered_notes, device_outcome, device_reading, with_device, plain_outcome, configuration_verdict, with_configuration, configuration_notes, status_verdict, configured_outcome, configured_notes, silence_verdict, after_report, report_outcome, report_notes, turn_outcome, turn_notes, with_finding, finding_notes, settled, settled_next, settled_notes, with_known, judged, judged_notes, outcome_of, outcome_by, turn_by, is_overdue, number_of, setup_of};
 
     /// A plug to which nothing was attached yet.
     pub fn new(plug: Plug) -> Attachment
@@ -126,11 +126,14 @@ impl Attachment {
     ) -> Next
         requires { notes.old.items ≡ [] }
         ensures stands { (plug : Plug) (past : List Call) → AttachmentStands plug rules.now self.old past
-            → AttachmentStands plug rules.now self.new (Replied life number tick (reply_of status bytes.now) ∷ past) }
+            → AttachmentStands plug rules.now self.new (Replied life number tick
+            (reply_of status bytes.now) ∷ past) }
         ensures answer { (plug : Plug) (past : List Call) → AttachmentStands plug rules.now self.old past
-            → result ≡ next_in plug rules.now life number tick (reply_of status bytes.now) (standing plug rules.now past).life }
+            → result ≡ next_in plug rules.now life number tick (reply_of status bytes.now)
+            (standing plug rules.now past).life }
         ensures notes { (plug : Plug) (past : List Call) → AttachmentStands plug rules.now self.old past
-            → notes.new.items ≡ notes_in plug rules.now life number (reply_of status bytes.now) (standing plug rules.now past).life }
+            → notes.new.items ≡ notes_in plug rules.now life number (reply_of status bytes.now)
+            (standing plug rules.now past).life }
         ensures ignored { result ≡ Next.Ignored → self.new ≡ self.old }
         ensures few { length notes.new.items ≤ 2 + INTERFACES_MAX }
     {
@@ -168,8 +171,8 @@ impl Attachment {
         ensures { (plug : Plug) (rules : RuleSet) (past : List Call)
             → AttachmentStands plug rules self.now past
             → MatchOption result ((standing plug rules past).accepted ≡ None)
-            (λ p. (standing plug rules past).accepted
-            ≡ Some (record { device = p.0.now; configuration = p.1.now })) }
+            (λ p. (standing plug rules past).accepted ≡ Some
+            (record { device = p.0.now; configuration = p.1.now })) }
     {
         match &self.known {
             None => None,
@@ -280,12 +283,12 @@ impl Attachment {
         notes: &mut Notes,
     ) -> Next
         requires { notes.old.items ≡ [] }
-        ensures after { self.new
-            ≡ answered_with (awaited life number self.old.phase) rules.now life tick (reply_of status bytes.now) self.old }
-        ensures next { result
-            ≡ answered_next (awaited life number self.old.phase) rules.now life (reply_of status bytes.now) self.old }
-        ensures notes { notes.new.items
-            ≡ answered_notes (awaited life number self.old.phase) rules.now (reply_of status bytes.now) self.old }
+        ensures after { self.new ≡ answered_with (awaited life number self.old.phase) rules.now life tick
+            (reply_of status bytes.now) self.old }
+        ensures next { result ≡ answered_next (awaited life number self.old.phase) rules.now life
+            (reply_of status bytes.now) self.old }
+        ensures notes { notes.new.items ≡ answered_notes (awaited life number self.old.phase) rules.now
+            (reply_of status bytes.now) self.old }
         ensures few { length self.old.fits.items ≤ INTERFACES_MAX
             → length self.new.fits.items ≤ INTERFACES_MAX }
         ensures few_notes { length notes.new.items ≤ 2 + INTERFACES_MAX }
@@ -332,10 +335,10 @@ impl Attachment {
     }
 
     fn judge_device(&mut self, status: u8, bytes: &[u8]) -> Outcome
-        ensures outcome { result
-            ≡ device_outcome (device_reading self.old.known (reply_of status bytes.now)) }
-        ensures after { self.new
-            ≡ with_device (device_reading self.old.known (reply_of status bytes.now)) bytes.now self.old }
+        ensures outcome { result ≡ device_outcome (device_reading self.old.known
+            (reply_of status bytes.now)) }
+        ensures after { self.new ≡ with_device (device_reading self.old.known
+            (reply_of status bytes.now)) bytes.now self.old }
     {
         match judge_device(&self.known, status, bytes) {
             Ok(device) => {
@@ -357,12 +360,13 @@ impl Attachment {
         notes: &mut Notes,
     ) -> Outcome
         requires { notes.old.items ≡ [] }
-        ensures outcome { result
-            ≡ plain_outcome (configuration_verdict rules.now device.now total (reply_of status bytes.now) self.old) (Step.Configure (configuration_value bytes.now)) }
-        ensures after { self.new
-            ≡ with_configuration (configuration_verdict rules.now device.now total (reply_of status bytes.now) self.old) device.now bytes.now self.old }
-        ensures notes { notes.new.items
-            ≡ configuration_notes (configuration_verdict rules.now device.now total (reply_of status bytes.now) self.old) self.old.plug bytes.now }
+        ensures outcome { result ≡ plain_outcome (configuration_verdict rules.now device.now total
+            (reply_of status bytes.now) self.old) (Step.Configure (configuration_value bytes.now)) }
+        ensures after { self.new ≡ with_configuration (configuration_verdict rules.now device.now total
+            (reply_of status bytes.now) self.old) device.now bytes.now self.old }
+        ensures notes { notes.new.items ≡ configuration_notes
+            (configuration_verdict rules.now device.now total
+            (reply_of status bytes.now) self.old) self.old.plug bytes.now }
         ensures few_notes { length notes.new.items ≤ INTERFACES_MAX }
         ensures few { length self.old.fits.items ≤ INTERFACES_MAX
             → length self.new.fits.items ≤ INTERFACES_MAX }
@@ -421,12 +425,12 @@ impl Attachment {
         notes: &mut Notes,
     ) -> Outcome
         requires { notes.old.items ≡ [] }
-        ensures outcome { result
-            ≡ report_outcome (silence_verdict status) ask (reply_of status bytes.now) self.old }
-        ensures after { self.new
-            ≡ after_report (silence_verdict status) ask (reply_of status bytes.now) self.old }
-        ensures notes { notes.new.items
-            ≡ report_notes (silence_verdict status) ask (reply_of status bytes.now) self.old }
+        ensures outcome { result ≡ report_outcome (silence_verdict status) ask
+            (reply_of status bytes.now) self.old }
+        ensures after { self.new ≡ after_report (silence_verdict status) ask
+            (reply_of status bytes.now) self.old }
+        ensures notes { notes.new.items ≡ report_notes (silence_verdict status) ask
+            (reply_of status bytes.now) self.old }
         ensures few { length notes.new.items ≤ 1 + INTERFACES_MAX }
     {
         if status > STALL {
@@ -492,7 +496,8 @@ impl Attachment {
     }
 
     fn conclude_by_interfaces(&self) -> Outcome
-        ensures { result ≡ outcome_by (is_none self.now.accepted.items) (least_from self.now.least (barring_rules self.now.fits.items)) }
+        ensures { result ≡ outcome_by (is_none self.now.accepted.items) (least_from self.now.least
+            (barring_rules self.now.fits.items)) }
     {
         if !self.accepted.is_empty() {
             return Outcome::Ready;

@@ -1,5 +1,5 @@
 //! The configuration with all that belongs to it (USB 2.0, sections 9.6.3 to 9.6.6).
-ghost use Rattle.std.specs.Prelude.{◌≡◌, ◌≤◌, ◌++◌, [], length, option_copied, IfSome};
+ghost use Rattle.std.specs.Prelude.{◌≡◌, ◌≤◌, [], length, option_copied, IfSome};
 ghost use Rattle.psd_base.specs.declared.packet.TheConstants.{BLOCK_SIZE};
 ghost use Rattle.peripheral_filter.specs.Verdicts.{first_that_holds};
 ghost use Rattle.peripheral_filter.specs.Steps.{config_rules};
@@ -7,7 +7,7 @@ ghost use Rattle.usb_descriptor.specs.Fault.{config_fault};
 ghost use Rattle.console_host.specs.declared.fit.TheConstants.{INTERFACES_MAX};
 ghost use Rattle.console_host.specs.Replies.{reply_of};
 ghost use Rattle.console_host.specs.Fits.{entry_of, fits, fits_in, misfits, misfits_in, settings};
-ghost use Rattle.console_host.specs.Judging.{before_configuration, configuration_step};
+ghost use Rattle.console_host.specs.Judging.{configuration_step};
 ghost use Rattle.console_host.specs.Machine.{shape_of};
 
 use crate::descriptors::{Descriptors, Shape};
@@ -32,8 +32,8 @@ pub fn judge_configuration(
     status: u8,
     bytes: &[u8],
 ) -> Verdict
-    ensures verdict { result
-        ≡ first_that_holds (configuration_step plug rules.now device.now total before.now (reply_of status bytes.now)) }
+    ensures verdict { result ≡ first_that_holds
+        (configuration_step plug rules.now device.now total before.now (reply_of status bytes.now)) }
     ensures faultless { result ≡ Verdict.Accepted → config_fault bytes.now ≡ None }
     ensures short { result ≡ Verdict.Accepted → length bytes.now ≤ BLOCK_SIZE }
 {
@@ -68,8 +68,8 @@ fn judge_whole(
     bytes: &[u8],
     before: Option<&[u8]>,
 ) -> Verdict
-    ensures verdict { result
-        ≡ first_that_holds (config_rules plug rules.now device.now bytes.now (option_copied before.entry)) }
+    ensures verdict { result ≡ first_that_holds (config_rules plug rules.now device.now bytes.now
+        (option_copied before.entry)) }
     ensures faultless { result ≡ Verdict.Accepted → config_fault bytes.now ≡ None }
 {
     judge_config(plug, rules, device, bytes, before)

@@ -37,8 +37,8 @@ pub fn judge_device(
 /// Judges a device descriptor, by the one that was accepted before too.
 #[tactic(auto, using(crate::proofs::Sized::sized_by))]
 fn judge_bytes(bytes: &[u8], before: Option<&[u8]>) -> Result<DeviceDesc, RuleName>
-    ensures reading { result
-        ≡ unless_refused (first_that_holds (device_rules bytes.now (option_copied before.entry))) (device_of bytes.now) }
+    ensures reading { result ≡ unless_refused (first_that_holds
+        (device_rules bytes.now (option_copied before.entry))) (device_of bytes.now) }
     ensures long { OnOk result (length bytes.now ≤ DEVICE_SIZE) }
     ensures sized { IfOk result (λ device. IsTrue (is_packet_size device.max0)) }
 {

@@ -92,8 +92,8 @@ pub fn note_barred(plug: Plug, fits: &[Fit], number: u32, notes: &mut Notes)
     requires few { length fits.now ≤ INTERFACES_MAX }
     requires room { length notes.old.items ≤ 1 }
     ensures notes { notes.new.items
-        ≡ notes.old.items ++ map (barred_note plug) (filter
-        (λ barred. barred.due == number) (barred_from CONFIGURE fits.now)) }
+        ≡ notes.old.items ++ map (barred_note plug) (filter (λ barred. barred.due == number)
+        (barred_from CONFIGURE fits.now)) }
     ensures room { length notes.new.items ≤ 1 + INTERFACES_MAX }
 {
     let mut answered = CONFIGURE;

@@ -1,8 +1,7 @@
 //! The report descriptors (HID 1.11, section 6.2.2).
-ghost use Rattle.std.specs.Prelude.{◌≡◌, ◌<◌, ◌^◌, length};
+ghost use Rattle.std.specs.Prelude.{◌≡◌};
 ghost use Rattle.console_host.specs.Replies.{reply_of};
-ghost use Rattle.console_host.specs.Judging.{finding, layout_by};
-ghost use Rattle.hid_report.specs.Reading.{layout_of};
+ghost use Rattle.console_host.specs.Judging.{finding};
 
 use crate::rules::STALLED;
 use crate::status::STALL;

@@ -15,8 +15,8 @@ pub const STALL: u8 = 1;
 /// Judges the status of a reply: a stall, and then a failure.
 pub fn judge_status(status: u8) -> Verdict
     ensures verdict { result ≡ first_that_holds (status_rules status) }
-    ensures then { (rules : List (RuleName × Bool)) → first_that_holds (status_rules status ++ rules)
-        ≡ then_by result (first_that_holds rules) }
+    ensures then { (rules : List (RuleName × Bool))
+        → first_that_holds (status_rules status ++ rules) ≡ then_by result (first_that_holds rules) }
 {
     if status == STALL {
         return Verdict::Refused(STALLED);

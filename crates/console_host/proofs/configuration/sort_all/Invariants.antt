@@ -1,5 +1,5 @@
 -- The interfaces so far are sorted.
-use Rattle.std.proofs.Common.{◌≡◌, ◌+◌, ◌≤◌, ◌++◌, drop, length}
+use Rattle.std.proofs.Common.{◌≡◌, ◌≤◌, ◌++◌, drop, length}
 use Rattle.console_host.specs.Fits.{fits_in, misfits_in, settings}
 use Rattle.console_host.proofs.configuration.sort_all.Given as goal
 

@@ -1,5 +1,5 @@
 -- The orders so far are answered, and none of them is the one that is sought.
-use Rattle.std.proofs.Common.{◌≡◌, ℕ, ◌+◌, ◌≤◌, ◌==◌, drop}
+use Rattle.std.proofs.Common.{◌≡◌, ◌+◌, ◌≤◌, ◌==◌, drop}
 use Rattle.std.specs.List.{find}
 use Rattle.console_host.specs.declared.fit.ReportAsk.{ReportAsk}
 use Rattle.console_host.specs.declared.order.TheConstants.{CONFIGURE}

@@ -1,5 +1,5 @@
 -- The lines so far, and those that are left.
-use Rattle.std.proofs.Common.{◌≡◌, ℕ, ◌+◌, ◌≤◌, ◌==◌, ◌++◌, drop, length, map, filter}
+use Rattle.std.proofs.Common.{◌≡◌, ◌+◌, ◌≤◌, ◌==◌, ◌++◌, drop, length, map, filter}
 use Rattle.console_host.specs.declared.order.TheConstants.{CONFIGURE}
 use Rattle.console_host.specs.Fits.{Barred, barred_from, barred_note}
 use Rattle.console_host.proofs.fit.note_barred.Given as goal
