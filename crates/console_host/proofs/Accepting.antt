@@ -1,7 +1,7 @@
 -- The interfaces that replies accept, and the rules by which they refuse some, one reply further.
 use Rattle.std.proofs.Common.{◌≡◌, ℕ, ◌+◌, ◌-◌, ◌<◌, ◌≤◌, List, [], ◌∷◌, ◌++◌, length, Option, Some, None, Result, Ok, Err, refl, ap, sym, subst, ◌∙◌, arith, append-nil, length-append, ⊎_elim}
 use Rattle.std.proofs.lemmas.Bool.{cases_lt}
-use Rattle.hid_report.specs.Reading.{Reading}
+use Rattle.hid_report.specs.LayoutValue.{LayoutValue}
 use Rattle.psd_base.specs.declared.console.Plug.{Plug}
 use Rattle.psd_base.specs.declared.console.RuleName.{RuleName}
 use Rattle.console_host.specs.declared.order.TheConstants.{CONFIGURE}
@@ -19,7 +19,7 @@ pub refused-early : (plug : Plug) (earlier : List Reply) (reply : Reply) → len
 refused-early plug earlier reply h =
     ap (λ (found : Option Found). refused_in plug earlier ++ refused_by found) (found-none plug earlier reply h) ∙ append-nil (refused_in plug earlier)
 
-one-by : (interface : ℕ) (verdict : Result Reading RuleName) → length (listed_by (Some (record { interface = interface; verdict = verdict }))) ≤ 1
+one-by : (interface : ℕ) (verdict : Result LayoutValue RuleName) → length (listed_by (Some (record { interface = interface; verdict = verdict }))) ≤ 1
 one-by interface (Ok layout) = omega arith
 one-by interface (Err rule) = omega arith
 

@@ -9,7 +9,7 @@ use Rattle.psd_base.specs.declared.console.Plug.TheVariants.{Keyboard, Mouse, To
 use Rattle.psd_base.specs.declared.console.RuleName.{RuleName}
 use Rattle.psd_base.specs.declared.setup.Setup.{Setup}
 use Rattle.usb_descriptor.specs.Device.{device_of}
-use Rattle.hid_report.specs.Reading.{Reading}
+use Rattle.hid_report.specs.LayoutValue.{LayoutValue}
 use Rattle.peripheral_filter.specs.declared.rule.Verdict.{Verdict}
 use Rattle.peripheral_filter.specs.declared.rule.Verdict.TheVariants.{Accepted, Refused}
 use Rattle.peripheral_filter.specs.declared.fixed.TheConstants.{NO_INTERFACE}
@@ -144,7 +144,7 @@ configured-turns attachment earlier reply (Refused rule) is least accepted few r
 }
 
 -- what is known of the asked interface
-finding-turns : (attachment : Attachment) (earlier : List Reply) (reply : Reply) (ask : ReportAsk) (result : Result Reading RuleName)
+finding-turns : (attachment : Attachment) (earlier : List Reply) (reply : Reply) (ask : ReportAsk) (result : Result LayoutValue RuleName)
     → CONFIGURE ≤ length earlier → ask.number ≡ length earlier + 1 → ask.number ≤ CONFIGURE + INTERFACES_MAX
     → attachment.least ≡ least_from None (refused_in attachment.plug earlier) → attachment.accepted.items ≡ accepted_in attachment.plug earlier
     → length attachment.fits.items ≤ INTERFACES_MAX → HasRead attachment.plug attachment earlier

@@ -7,7 +7,7 @@ use Rattle.psd_base.specs.declared.console.RuleName.TheVariants.{Fixed, Deny, No
 use Rattle.psd_base.specs.declared.packet.TheConstants.{BLOCK_SIZE}
 use Rattle.usb_descriptor.specs.Device.{word_at}
 use Rattle.usb_descriptor.specs.declared.device.DeviceDesc.{DeviceDesc}
-use Rattle.hid_report.specs.Reading.{Reading, layout_of}
+use Rattle.hid_report.specs.LayoutValue.{LayoutValue, layout_of}
 use Rattle.hid_report.specs.declared.fault.LayoutFault.{LayoutFault}
 use Rattle.peripheral_filter.specs.declared.fixed.TheConstants.{MALFORMED_DESCRIPTOR, SIZE_LIMITS, MALFORMED_REPORT}
 use Rattle.peripheral_filter.specs.declared.rule.RuleSet.{RuleSet}
@@ -60,13 +60,13 @@ report_step plug asked reply =
     (STALLED, reply.status == STALL) ∷ (MALFORMED_REPORT, not (length reply.bytes == asked)) ∷ layout_rules plug reply.bytes
 
 -- the layout of a report descriptor that no rule refuses; such a one can always be read
-abbrev pub layout_by : Verdict → Result Reading LayoutFault → Result Reading RuleName
+abbrev pub layout_by : Verdict → Result LayoutValue LayoutFault → Result LayoutValue RuleName
 layout_by (Refused rule) read = Err rule
 layout_by Accepted (Ok reading) = Ok reading
 layout_by Accepted (Err fault) = Err MALFORMED_REPORT
 
 -- what a reply says of the interface that was asked for so many bytes: its layout, or the rule that refuses it
-abbrev pub finding : Plug → ℕ → Reply → Result Reading RuleName
+abbrev pub finding : Plug → ℕ → Reply → Result LayoutValue RuleName
 finding plug asked reply = layout_by (first_that_holds (report_step plug asked reply)) (layout_of reply.bytes)
 
 -- the place of a rule in the order in which rules are named

@@ -7,7 +7,7 @@ use Rattle.psd_base.specs.History.{or_else}
 use Rattle.psd_base.specs.declared.console.Plug.{Plug}
 use Rattle.psd_base.specs.declared.console.Note.{Note}
 use Rattle.psd_base.specs.declared.console.Order.TheVariants as order
-use Rattle.hid_report.specs.Reading.{Reading}
+use Rattle.hid_report.specs.LayoutValue.{LayoutValue}
 use Rattle.peripheral_filter.specs.declared.rule.RuleSet.{RuleSet}
 use Rattle.console_host.specs.declared.next.Next.{Next}
 use Rattle.console_host.specs.declared.next.Next.TheVariants as next
@@ -131,7 +131,7 @@ accepted_of plug None = []
 accepted_of plug (Some life) = accepted_in plug life.replies
 
 -- the layout of an accepted interface of this number
-abbrev pub layout_in : ℕ → List Interface → Option Reading
+abbrev pub layout_in : ℕ → List Interface → Option LayoutValue
 layout_in number accepted = elim (find (λ interface. interface.number == number) accepted) [ None ↦ None | Some interface ↦ interface.layout ]
 
 -- the shape of a peripheral that is ready

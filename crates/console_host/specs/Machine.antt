@@ -11,7 +11,7 @@ use Rattle.psd_base.specs.declared.console.Order.TheVariants as order
 use Rattle.usb_descriptor.specs.declared.device.DeviceDesc.{DeviceDesc}
 use Rattle.usb_descriptor.specs.Device.{word_at, device_of}
 use Rattle.usb_descriptor.specs.View.{configuration_value, in_set, out_set}
-use Rattle.hid_report.specs.Reading.{Reading}
+use Rattle.hid_report.specs.LayoutValue.{LayoutValue}
 use Rattle.peripheral_filter.specs.declared.fixed.TheConstants.{NO_INTERFACE}
 use Rattle.peripheral_filter.specs.declared.rule.RuleSet.{RuleSet}
 use Rattle.peripheral_filter.specs.declared.rule.Verdict.{Verdict}
@@ -110,14 +110,14 @@ configuration_notes Accepted plug bytes = misfits plug bytes
 configuration_notes (Refused rule) plug bytes = []
 
 -- what is known of the interface that was asked
-abbrev pub with_finding : ℕ → Result Reading RuleName → Attachment → Attachment
+abbrev pub with_finding : ℕ → Result LayoutValue RuleName → Attachment → Attachment
 with_finding number (Ok layout) attachment =
     if nat_lt (length attachment.accepted.items) INTERFACES_MAX then
     record attachment { accepted = record { items = attachment.accepted.items ++ record { number = number; layout = Some layout } ∷ [] } }
     else attachment
 with_finding number (Err rule) attachment = record attachment { least = Some (lesser attachment.least rule) }
 
-abbrev pub finding_notes : Plug → ℕ → Result Reading RuleName → List Note
+abbrev pub finding_notes : Plug → ℕ → Result LayoutValue RuleName → List Note
 finding_notes plug number (Ok layout) = note.InterfaceAccepted plug number ∷ []
 finding_notes plug number (Err rule) = note.InterfaceRefused plug number rule ∷ []
 
@@ -152,7 +152,7 @@ configured_notes Accepted attachment = turn_notes attachment CONFIGURE
 configured_notes (Refused rule) attachment = []
 
 -- the reply with a report descriptor
-abbrev pub report_finding : Plug → ReportAsk → Reply → Result Reading RuleName
+abbrev pub report_finding : Plug → ReportAsk → Reply → Result LayoutValue RuleName
 report_finding plug ask reply = finding plug ask.length reply
 
 abbrev pub after_report : Verdict → ReportAsk → Reply → Attachment → Attachment

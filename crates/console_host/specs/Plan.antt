@@ -11,7 +11,7 @@ use Rattle.psd_base.specs.declared.console.Note.{Note}
 use Rattle.psd_base.specs.declared.console.Note.TheVariants as note
 use Rattle.usb_descriptor.specs.Device.{word_at, device_of}
 use Rattle.usb_descriptor.specs.View.{configuration_value, in_set, out_set}
-use Rattle.hid_report.specs.Reading.{Reading}
+use Rattle.hid_report.specs.LayoutValue.{LayoutValue}
 use Rattle.peripheral_filter.specs.declared.fixed.TheConstants.{NO_INTERFACE}
 use Rattle.peripheral_filter.specs.declared.rule.RuleSet.{RuleSet}
 use Rattle.peripheral_filter.specs.declared.rule.Verdict.{Verdict}
@@ -77,7 +77,7 @@ next_order plug replies =
 -- An interface that was asked for its report descriptor is accepted with a layout, or refused by a rule.
 pub record Found : Type 0 where
   pub interface : ℕ
-  pub verdict : Result Reading RuleName
+  pub verdict : Result LayoutValue RuleName
 
 -- what a reply says of the interface that its order asked, if it asked one; a failure refuses the device and says nothing of it
 abbrev pub found_by : Plug → Option ReportAsk → Reply → Option Found
