@@ -5,19 +5,16 @@ ghost use Rattle.switch_core.specs.Independence.{LogIgnoresActs, SameViewSameLin
 #[tactic(auto, using(crate::proofs::Independence::log_ignores_acts))]
 pub fn log_ignores_acts()
     ensures { LogIgnoresActs }
-{
-}
+{}
 
 /// A port's view has nothing of what other computers do: acts of theirs may be taken out, added or exchanged.
 #[tactic(auto, using(crate::proofs::Independence::view_ignores_others))]
 pub fn view_ignores_others()
     ensures { ViewIgnoresOthers }
-{
-}
+{}
 
 /// A computer is answered the same in two runs in which the same concerns its port.
 #[tactic(auto, using(crate::proofs::Independence::same_view_same_lines))]
 pub fn same_view_same_lines()
     ensures { SameViewSameLines }
-{
-}
+{}
