@@ -21,7 +21,7 @@ import tempfile
 TOP = pathlib.Path(__file__).resolve().parent.parent
 SESSION = TOP / "tests" / "sessions" / "device-descriptor"
 STREAMS = {0: "standard input", 1: "standard output", 2: "standard error"}
-WRITE_FAULT, OUT_OF_MEMORY = 7, 8
+WRITE_FAULT, OUT_OF_MEMORY, NOT_LOADED = 7, 8, 127
 SECONDS = 60
 KIBIBYTE = 1024
 STEP, MOST = 64 * KIBIBYTE, 64 * 1024 * KIBIBYTE
@@ -102,8 +102,8 @@ def check_memory(program):
                     break
             elif done.returncode == OUT_OF_MEMORY and not files and done.stderr in (b"out of memory\n", b""):
                 stopped += done.stderr != b""
-            elif done.returncode < 0 and not files:
-                continue  # the system could not even load the program
+            elif (done.returncode < 0 or done.returncode == NOT_LOADED) and not files:
+                continue  # the system couldn't even load the program
             else:
                 raise Wrong(f"with {memory} bytes it ended with {done.returncode}, {done.stderr!r} and {sorted(files)}")
     if not stopped or not ended:
