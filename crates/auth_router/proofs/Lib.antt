@@ -1,1 +1,11 @@
+mod BridgeExamples
+pub mod BridgeSteps
+pub mod ControlSteps
+pub mod EndpointSteps
+pub mod JobSteps
+pub mod LiveActs
+pub mod LiveDone
+pub mod LiveSteps
+pub mod Pasts
+pub mod Settles
 mod SlotExamples

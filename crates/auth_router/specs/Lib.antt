@@ -1,3 +1,11 @@
+pub mod Bridge
+pub mod BridgeStands
+pub mod ControlStep
+pub mod Endpoint
+pub mod EndpointStep
+pub mod Entries
+pub mod Forwarding
+pub mod LiveStep
 pub mod Slot
 pub mod SlotCalls
 pub mod SlotStands

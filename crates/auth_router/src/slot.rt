@@ -108,8 +108,8 @@ impl TokenSlot {
         requires { self.old.life < 4294967295 }
         ensures stands { (past : List SlotCall) → SlotStands self.old past
             → SlotStands self.new (Clock tick ∷ past) }
-        ensures answer { (past : List SlotCall) → SlotStands self.old past
-            → result ≡ comes_on (Clock tick) past }
+        ensures answer { (past : List SlotCall) → SlotStands self.old past → result
+            ≡ comes_on (Clock tick) past }
     {
         match self.state {
             SlotState::Off { since } => {
@@ -132,8 +132,8 @@ impl TokenSlot {
     pub fn detach(&mut self, tick: Tick) -> bool
         ensures stands { (past : List SlotCall) → SlotStands self.old past
             → SlotStands self.new (Detach tick ∷ past) }
-        ensures answer { (past : List SlotCall) → SlotStands self.old past
-            → result ≡ goes_off (Detach tick) past }
+        ensures answer { (past : List SlotCall) → SlotStands self.old past → result
+            ≡ goes_off (Detach tick) past }
     {
         let had_power = has_power(self.state);
         if had_power {
@@ -147,8 +147,8 @@ impl TokenSlot {
     pub fn leave(&mut self, tick: Tick) -> bool
         ensures stands { (past : List SlotCall) → SlotStands self.old past
             → SlotStands self.new (Leave tick ∷ past) }
-        ensures answer { (past : List SlotCall) → SlotStands self.old past
-            → result ≡ goes_off (Leave tick) past }
+        ensures answer { (past : List SlotCall) → SlotStands self.old past → result
+            ≡ goes_off (Leave tick) past }
     {
         let had_power = has_power(self.state);
         if had_power {
@@ -163,8 +163,8 @@ impl TokenSlot {
         requires { self.old.state ≡ SlotState.Asking }
         ensures stands { (past : List SlotCall) → SlotStands self.old past
             → SlotStands self.new (Bar tick rule ∷ past) }
-        ensures answer { (past : List SlotCall) → SlotStands self.old past
-            → result ≡ goes_off (Bar tick rule) past }
+        ensures answer { (past : List SlotCall) → SlotStands self.old past → result
+            ≡ goes_off (Bar tick rule) past }
     {
         self.last_off = Some(tick);
         self.state = SlotState::Barred(rule);
