@@ -1,3 +1,4 @@
+pub mod Addresses
 mod Examples
 pub mod Histories
 pub mod Requests
