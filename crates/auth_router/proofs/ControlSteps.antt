@@ -12,7 +12,7 @@ use Rattle.psd_base.specs.declared.act.Answer.{Answer}
 use Rattle.psd_base.specs.declared.act.Answer.TheVariants as answer
 use Rattle.control_pipe.specs.Requests.{when}
 use Rattle.control_pipe.specs.Transfer.{Transfer, Form, Reading, Writing, NoData, form_of, is_fit, each_fit, all_fit, is_completed_by, packets_of, packet_count, cut_data, is_out, is_acked_in, is_open, received, expected_toggle, same_toggle, has_status_in}
-use Rattle.control_pipe.specs.Progress.{Progress, Refusing, DataIn, StatusOut, DataOut, StatusIn, in_answer, after_in, completion, out_answer, after_out, is_room_for}
+use Rattle.control_pipe.specs.Progress.{Progress, Refusing, DataIn, StatusOut, DoneOut, DataOut, StatusIn, in_answer, after_in, out_answer, after_out, is_room_for}
 use Rattle.control_pipe.specs.PipeStands.{progress_of, progress_of_form, reading_progress, writing_progress, status_progress}
 use Rattle.control_pipe.proofs.Stages.{contents_of, transfer_answer-In, transfer_answer-Out, progress_of-In, progress_of-Out, completed_by_In}
 use Rattle.auth_router.specs.declared.control.Forwarding.{Forwarding}
@@ -48,6 +48,8 @@ never_data true toggle packet Refusing = refl
 never_data true toggle packet (DataIn bytes maximum count sent) =
     cond_both (toggle && length packet == 0) answer.Ack answer.Stall (λ (a : Answer). withheld true a ≡ a) (λ _. refl) (λ _. refl)
 never_data true toggle packet StatusOut =
+    cond_both (toggle && length packet == 0) answer.Ack answer.Stall (λ (a : Answer). withheld true a ≡ a) (λ _. refl) (λ _. refl)
+never_data true toggle packet DoneOut =
     cond_both (toggle && length packet == 0) answer.Ack answer.Stall (λ (a : Answer). withheld true a ≡ a) (λ _. refl) (λ _. refl)
 never_data true toggle packet (DataOut setup bytes next) =
     cond_both (same_toggle toggle next) _ _ (λ (a : Answer). withheld true a ≡ a)
@@ -307,8 +309,8 @@ fresh_answered : (setup : Setup) (maximum : ℕ) (bytes : List ℕ) → 0 < maxi
     → answered setup maximum bytes (progress_of_form Reading (record { setup = setup; due = Some []; maximum = maximum; acts = [] }))
     ≡ progress_of_form Reading (record { setup = setup; due = Some bytes; maximum = maximum; acts = [] })
 fresh_answered setup maximum bytes positive some =
-    ap (λ (count : ℕ). answered setup maximum bytes (reading_progress (nat_lt 0 count) (take setup.length []) maximum count 0)) (one_packet setup.length maximum some positive)
-    ∙ sym (ap (λ (b : Bool). reading_progress b (take setup.length bytes) maximum (packets_of (length (take setup.length bytes)) setup.length maximum) 0)
+    ap (λ (count : ℕ). answered setup maximum bytes (reading_progress true (nat_lt 0 count) (take setup.length []) maximum count 0)) (one_packet setup.length maximum some positive)
+    ∙ sym (ap (λ (b : Bool). reading_progress true b (take setup.length bytes) maximum (packets_of (length (take setup.length bytes)) setup.length maximum) 0)
     (lt-ltb 0 (packets_of (length (take setup.length bytes)) setup.length maximum) (some_packets (length (take setup.length bytes)) setup.length maximum some positive)))
 
 answered_status : (left : Bool) (setup kept : Setup) (maximum : ℕ) (bytes : List ℕ) → answered setup maximum bytes (status_progress left kept) ≡ status_progress left kept
@@ -320,12 +322,12 @@ answered_writing true setup kept maximum bytes old next = refl
 answered_writing false setup kept maximum bytes old next = refl
 
 ended_reading : (setup : Setup) (maximum : ℕ) (due : List ℕ) (before : Act) (acts : List Act) → begins_with_out (before ∷ acts) ≡ true
-    → progress_of_form Reading (record { setup = setup; due = Some due; maximum = maximum; acts = before ∷ acts }) ≡ StatusOut
+    → progress_of_form Reading (record { setup = setup; due = Some due; maximum = maximum; acts = before ∷ acts }) ≡ DoneOut
 ended_reading setup maximum due before acts early = rw (some_out acts before early) refl
 
 answered_of_form : (form : Form) (setup : Setup) (maximum : ℕ) (bytes : List ℕ) (acts : List Act) → 0 < maximum → (is_reading form ≡ true → 0 < setup.length)
     → (is_reading form ≡ true → begins_with_out acts ≡ true)
-    → (progress_of_form form (record { setup = setup; due = Some []; maximum = maximum; acts = acts }) ≡ StatusOut → ⊥)
+    → (progress_of_form form (record { setup = setup; due = Some []; maximum = maximum; acts = acts }) ≡ DoneOut → ⊥)
     → answered setup maximum bytes (progress_of_form form (record { setup = setup; due = Some []; maximum = maximum; acts = acts }))
     ≡ progress_of_form form (record { setup = setup; due = Some bytes; maximum = maximum; acts = acts })
 answered_of_form NoData setup maximum bytes acts positive some early open_still = answered_status (is_open acts) setup setup maximum bytes
@@ -335,7 +337,7 @@ answered_of_form Reading setup maximum bytes (before ∷ acts) positive some ear
 
 answered_where : (all : Bool) (form : Form) (setup : Setup) (maximum : ℕ) (bytes : List ℕ) (acts : List Act) → 0 < maximum → (is_reading form ≡ true → 0 < setup.length)
     → (is_reading form ≡ true → begins_with_out acts ≡ true)
-    → (cond all (progress_of_form form (record { setup = setup; due = Some []; maximum = maximum; acts = acts })) Refusing ≡ StatusOut → ⊥)
+    → (cond all (progress_of_form form (record { setup = setup; due = Some []; maximum = maximum; acts = acts })) Refusing ≡ DoneOut → ⊥)
     → answered setup maximum bytes (cond all (progress_of_form form (record { setup = setup; due = Some []; maximum = maximum; acts = acts })) Refusing)
     ≡ cond all (progress_of_form form (record { setup = setup; due = Some bytes; maximum = maximum; acts = acts })) Refusing
 answered_where false form setup maximum bytes acts positive some early open_still = refl
@@ -347,7 +349,7 @@ some_length false true n e reading = absurd (false≢true reading)
 some_length false false n e reading = let h = eqb-false n 0 (sym e) in omega (arith, h)
 
 answered_transfer : (setup : Setup) (maximum : ℕ) (bytes : List ℕ) (acts : List Act) → 0 < maximum → (reads setup ≡ true → begins_with_out acts ≡ true)
-    → (progress_of (Some (record { setup = setup; due = Some []; maximum = maximum; acts = acts })) ≡ StatusOut → ⊥)
+    → (progress_of (Some (record { setup = setup; due = Some []; maximum = maximum; acts = acts })) ≡ DoneOut → ⊥)
     → answered setup maximum bytes (progress_of (Some (record { setup = setup; due = Some []; maximum = maximum; acts = acts })))
     ≡ progress_of (Some (record { setup = setup; due = Some bytes; maximum = maximum; acts = acts }))
 answered_transfer setup maximum bytes acts positive early open_still =
@@ -358,7 +360,7 @@ answered_transfer setup maximum bytes acts positive early open_still =
     (packet_count (record { setup = setup; due = Some bytes; maximum = maximum; acts = acts })) acts early)
 
 settled_progress : (good : Bool) (setup : Setup) (maximum : ℕ) (bytes : List ℕ) (acts : List Act) (progress : Progress) → 0 < maximum → (reads setup ≡ true → begins_with_out acts ≡ true)
-    → progress ≡ progress_of (Some (record { setup = setup; due = Some []; maximum = maximum; acts = acts })) → (progress ≡ StatusOut → ⊥)
+    → progress ≡ progress_of (Some (record { setup = setup; due = Some []; maximum = maximum; acts = acts })) → (progress ≡ DoneOut → ⊥)
     → cond good (answered setup maximum bytes progress) Refusing
     ≡ progress_of (Some (record { setup = setup; due = cond good (Some bytes) None; maximum = maximum; acts = acts }))
 settled_progress false setup maximum bytes acts progress positive early is open_still = refl
@@ -372,7 +374,7 @@ no_longer_waits true false = refl
 no_longer_waits false own = refl
 
 follows_settled_one : (control : ControlValue) (maximum : ℕ) (request : Request) (reply : Option Reply) (made : Bool) (acts : List Act) (status : ℕ) (bytes : List ℕ)
-    → 0 < maximum → Follows control maximum (Some request) reply made acts → waits_for request reply ≡ true → (control.progress ≡ StatusOut → ⊥)
+    → 0 < maximum → Follows control maximum (Some request) reply made acts → waits_for request reply ≡ true → (control.progress ≡ DoneOut → ⊥)
     → Follows (settled_control status bytes control) maximum (Some request) (Some (record { status = status; bytes = bytes })) made acts
 follows_settled_one control maximum request reply made acts status bytes positive is waiting open_still =
     let parts : (request.supported ≡ true) × (is_some reply ≡ false) = waits_parts request.supported (is_set_address request.setup) (is_some reply) waiting in
@@ -392,7 +394,7 @@ follows_settled_one control maximum request reply made acts status bytes positiv
     }
 
 pub follows_settled : (control : ControlValue) (maximum : ℕ) (request : Option Request) (reply : Option Reply) (made : Bool) (acts : List Act) (status : ℕ) (bytes : List ℕ)
-    → 0 < maximum → Follows control maximum request reply made acts → is_waiting_for request reply ≡ true → (control.progress ≡ StatusOut → ⊥)
+    → 0 < maximum → Follows control maximum request reply made acts → is_waiting_for request reply ≡ true → (control.progress ≡ DoneOut → ⊥)
     → Follows (settled_control status bytes control) maximum request (Some (record { status = status; bytes = bytes })) made acts
 follows_settled control maximum None reply made acts status bytes positive is waiting open_still = absurd (false≢true waiting)
 follows_settled control maximum (Some request) reply made acts status bytes positive is waiting open_still =
@@ -400,23 +402,10 @@ follows_settled control maximum (Some request) reply made acts status bytes posi
 
 -- What an IN completes
 
-first_of : (Option (Setup × List ℕ)) → Option Setup
-first_of None = None
-first_of (Some done) = Some done.0
-
-completed_first : (progress : Progress) → completed_setup progress ≡ first_of (completion progress)
-unfolding first_of
-completed_first Refusing = refl
-completed_first (DataIn bytes maximum count sent) = refl
-completed_first StatusOut = refl
-completed_first (DataOut setup bytes next) = by_whole (length bytes == setup.length) where
-  by_whole : (b : Bool) → cond b (Some setup) None ≡ first_of (when b (setup, bytes))
-  by_whole true = refl
-  by_whole false = refl
-completed_first (StatusIn setup) = refl
+abbrev first_of : Option (Setup × List ℕ) → Option Setup
+first_of done = option_map (λ (d : Setup × List ℕ). d.0) done
 
 first_contents : (b : Bool) (transfer : Transfer) → first_of (option_map contents_of (when b transfer)) ≡ when b transfer.setup
-unfolding first_of
 first_contents true transfer = refl
 first_contents false transfer = refl
 
@@ -431,9 +420,8 @@ completes_is true false None address = refl
 completes_is false waiting None address = refl
 completes_is true true (Some transfer) address = refl
 completes_is true false (Some transfer) address =
-    completed_first (progress_of (Some transfer))
-    ∙ (ap (λ (o : Option (Setup × List ℕ)). first_of o) (sym (completed_by_In transfer address 0))
-    ∙ first_contents (is_completed_by transfer (act.In address 0 true)) transfer)
+    ap (λ (o : Option (Setup × List ℕ)). first_of o) (sym (completed_by_In transfer address 0))
+    ∙ first_contents (is_completed_by transfer (act.In address 0 true)) transfer
 completes_is false true (Some transfer) address = refl
 completes_is false false (Some transfer) address = not_acked (is_some transfer.due) (has_status_in (form_of transfer.setup)) (all_fit transfer (act.In address 0 false ∷ transfer.acts)) transfer
 
@@ -443,10 +431,11 @@ payload_where : (all : Bool) (form : Form) (transfer : Transfer) → is_data (in
     → sent_bytes (cond all (progress_of_form form transfer) Refusing) ≡ payload_of form transfer.acts
 payload_where false form transfer gives = absurd (false≢true gives)
 payload_where true Reading transfer gives =
-    by_left (number_of is_out transfer.acts == 0 && nat_lt (number_of is_acked_in transfer.acts) (packet_count transfer)) where
-      by_left : (b : Bool) → sent_bytes (reading_progress b (cut_data transfer) transfer.maximum (packet_count transfer) (number_of is_acked_in transfer.acts)) ≡ []
-      by_left true = refl
-      by_left false = refl
+    by_left (number_of is_out transfer.acts == 0) (nat_lt (number_of is_acked_in transfer.acts) (packet_count transfer)) where
+      by_left : (none left : Bool) → sent_bytes (reading_progress none left (cut_data transfer) transfer.maximum (packet_count transfer) (number_of is_acked_in transfer.acts)) ≡ []
+      by_left true true = refl
+      by_left true false = refl
+      by_left false left = refl
 payload_where true Writing transfer gives = by_left (is_open transfer.acts) gives where
   by_left : (b : Bool) → is_data (in_answer (writing_progress b transfer.setup (received transfer.acts) (expected_toggle transfer.acts))) ≡ true
       → sent_bytes (writing_progress b transfer.setup (received transfer.acts) (expected_toggle transfer.acts)) ≡ received transfer.acts
@@ -469,6 +458,8 @@ in_taken true (DataIn bytes maximum count sent) = refl
 in_taken false (DataIn bytes maximum count sent) = refl
 in_taken true StatusOut = refl
 in_taken false StatusOut = refl
+in_taken true DoneOut = refl
+in_taken false DoneOut = refl
 in_taken true (DataOut setup bytes next) = cond_both (length bytes == setup.length) (answer.Data true []) answer.Stall (λ (a : Answer). is_taken (withheld true a) ≡ not (true && is_data a)) (λ _. refl) (λ _. refl)
 in_taken false (DataOut setup bytes next) = cond_both (length bytes == setup.length) (answer.Data true []) answer.Stall (λ (a : Answer). is_taken (withheld false a) ≡ not (false && is_data a)) (λ _. refl) (λ _. refl)
 in_taken true (StatusIn setup) = refl
@@ -481,6 +472,8 @@ in_nak true (DataIn bytes maximum count sent) = refl
 in_nak false (DataIn bytes maximum count sent) = refl
 in_nak true StatusOut = refl
 in_nak false StatusOut = refl
+in_nak true DoneOut = refl
+in_nak false DoneOut = refl
 in_nak true (DataOut setup bytes next) = cond_both (length bytes == setup.length) (answer.Data true []) answer.Stall (λ (a : Answer). is_nak (withheld true a) ≡ (true && is_data a)) (λ _. refl) (λ _. refl)
 in_nak false (DataOut setup bytes next) = cond_both (length bytes == setup.length) (answer.Data true []) answer.Stall (λ (a : Answer). is_nak (withheld false a) ≡ (false && is_data a)) (λ _. refl) (λ _. refl)
 in_nak true (StatusIn setup) = refl
@@ -490,6 +483,7 @@ pub out_taken : (toggle : Bool) (packet : List ℕ) (progress : Progress) → is
 out_taken toggle packet Refusing = refl
 out_taken toggle packet (DataIn bytes maximum count sent) = cond_both (toggle && length packet == 0) answer.Ack answer.Stall (λ (a : Answer). is_taken a ≡ true) (λ _. refl) (λ _. refl)
 out_taken toggle packet StatusOut = cond_both (toggle && length packet == 0) answer.Ack answer.Stall (λ (a : Answer). is_taken a ≡ true) (λ _. refl) (λ _. refl)
+out_taken toggle packet DoneOut = cond_both (toggle && length packet == 0) answer.Ack answer.Stall (λ (a : Answer). is_taken a ≡ true) (λ _. refl) (λ _. refl)
 out_taken toggle packet (DataOut setup bytes next) =
     cond_both (same_toggle toggle next) _ _ (λ (a : Answer). is_taken a ≡ true)
     (λ _. cond_both (is_room_for packet bytes setup.length) answer.Ack answer.Stall (λ (a : Answer). is_taken a ≡ true) (λ _. refl) (λ _. refl)) (λ _. refl)
@@ -497,42 +491,44 @@ out_taken toggle packet (StatusIn setup) = refl
 
 -- When a transfer to the host comes to its end before the token answered
 
-pub in_not_ended : (acked : Bool) (progress : Progress) → is_data (in_answer progress) ≡ false → after_in acked progress ≡ StatusOut → ⊥
+pub in_not_ended : (acked : Bool) (progress : Progress) → is_data (in_answer progress) ≡ false → after_in acked progress ≡ DoneOut → ⊥
 in_not_ended acked Refusing gives e = cc
 in_not_ended acked (DataIn bytes maximum count sent) gives e = true≢false gives
 in_not_ended acked StatusOut gives e = cc
+in_not_ended acked DoneOut gives e = cc
 in_not_ended acked (DataOut setup bytes next) gives e =
-    cond_both (length bytes == setup.length && not acked) (DataOut setup bytes next) Refusing (λ (p : Progress). p ≡ StatusOut → ⊥) (λ _ f. cc) (λ _ f. cc) e
+    cond_both (length bytes == setup.length && not acked) (DataOut setup bytes next) Refusing (λ (p : Progress). p ≡ DoneOut → ⊥) (λ _ f. cc) (λ _ f. cc) e
 in_not_ended acked (StatusIn setup) gives e = true≢false gives
 
 out_ended_where : (all : Bool) (form : Form) (toggle : Bool) (packet : List ℕ) (transfer : Transfer)
-    → after_out toggle packet (cond all (progress_of_form form transfer) Refusing) ≡ StatusOut
+    → after_out toggle packet (cond all (progress_of_form form transfer) Refusing) ≡ DoneOut
     → (is_reading form && is_ack (out_answer toggle packet (cond all (progress_of_form form transfer) Refusing))) ≡ true
 out_ended_where false form toggle packet transfer e = cc
 out_ended_where true Reading toggle packet transfer e =
-    by_left (number_of is_out transfer.acts == 0 && nat_lt (number_of is_acked_in transfer.acts) (packet_count transfer)) e where
-      by_status : (b : Bool) → cond b StatusOut Refusing ≡ StatusOut → is_ack (cond b answer.Ack answer.Stall) ≡ true
+    by_left (number_of is_out transfer.acts == 0) (nat_lt (number_of is_acked_in transfer.acts) (packet_count transfer)) e where
+      by_status : (b : Bool) → cond b DoneOut Refusing ≡ DoneOut → is_ack (cond b answer.Ack answer.Stall) ≡ true
       by_status true f = refl
       by_status false f = cc
 
-      by_left : (b : Bool) → after_out toggle packet (reading_progress b (cut_data transfer) transfer.maximum (packet_count transfer) (number_of is_acked_in transfer.acts)) ≡ StatusOut
-          → is_ack (out_answer toggle packet (reading_progress b (cut_data transfer) transfer.maximum (packet_count transfer) (number_of is_acked_in transfer.acts))) ≡ true
-      by_left true f = by_status (toggle && length packet == 0) f
-      by_left false f = by_status (toggle && length packet == 0) f
+      by_left : (none left : Bool) → after_out toggle packet (reading_progress none left (cut_data transfer) transfer.maximum (packet_count transfer) (number_of is_acked_in transfer.acts)) ≡ DoneOut
+          → is_ack (out_answer toggle packet (reading_progress none left (cut_data transfer) transfer.maximum (packet_count transfer) (number_of is_acked_in transfer.acts))) ≡ true
+      by_left true true f = by_status (toggle && length packet == 0) f
+      by_left true false f = by_status (toggle && length packet == 0) f
+      by_left false left f = by_status (toggle && length packet == 0) f
 out_ended_where true Writing toggle packet transfer e = absurd (by_left (is_open transfer.acts) e) where
-  by_left : (b : Bool) → after_out toggle packet (writing_progress b transfer.setup (received transfer.acts) (expected_toggle transfer.acts)) ≡ StatusOut → ⊥
+  by_left : (b : Bool) → after_out toggle packet (writing_progress b transfer.setup (received transfer.acts) (expected_toggle transfer.acts)) ≡ DoneOut → ⊥
   by_left false f = cc
   by_left true f =
-      cond_both (same_toggle toggle (expected_toggle transfer.acts)) _ _ (λ (p : Progress). p ≡ StatusOut → ⊥)
-      (λ _. cond_both (is_room_for packet (received transfer.acts) transfer.setup.length) _ Refusing (λ (p : Progress). p ≡ StatusOut → ⊥) (λ _ h. cc) (λ _ h. cc))
+      cond_both (same_toggle toggle (expected_toggle transfer.acts)) _ _ (λ (p : Progress). p ≡ DoneOut → ⊥)
+      (λ _. cond_both (is_room_for packet (received transfer.acts) transfer.setup.length) _ Refusing (λ (p : Progress). p ≡ DoneOut → ⊥) (λ _ h. cc) (λ _ h. cc))
       (λ _ h. cc) f
 out_ended_where true NoData toggle packet transfer e = absurd (by_left (is_open transfer.acts) e) where
-  by_left : (b : Bool) → after_out toggle packet (status_progress b transfer.setup) ≡ StatusOut → ⊥
+  by_left : (b : Bool) → after_out toggle packet (status_progress b transfer.setup) ≡ DoneOut → ⊥
   by_left true f = cc
   by_left false f = cc
 
 pub out_ended : (toggle : Bool) (packet : List ℕ) (maximum : ℕ) (request : Option Request) (reply : Option Reply) (acts : List Act)
-    → after_out toggle packet (progress_of (option_map (transfer_for maximum reply acts) request)) ≡ StatusOut
+    → after_out toggle packet (progress_of (option_map (transfer_for maximum reply acts) request)) ≡ DoneOut
     → (reads (setup_of_request request) && is_ack (out_answer toggle packet (progress_of (option_map (transfer_for maximum reply acts) request)))) ≡ true
 out_ended toggle packet maximum None reply acts e = cc
 out_ended toggle packet maximum (Some request) reply acts e =

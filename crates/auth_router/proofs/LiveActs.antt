@@ -11,7 +11,7 @@ use Rattle.psd_base.specs.declared.console.JobKind.{JobKind}
 use Rattle.psd_base.specs.declared.console.JobKind.TheVariants as job
 use Rattle.control_pipe.specs.Requests.{when}
 use Rattle.control_pipe.specs.Transfer.{same_toggle}
-use Rattle.control_pipe.specs.Progress.{Progress, StatusOut, in_answer, after_in, out_answer, after_out}
+use Rattle.control_pipe.specs.Progress.{Progress, DoneOut, in_answer, after_in, out_answer, after_out}
 use Rattle.auth_router.specs.declared.up.Up.{Up}
 use Rattle.auth_router.specs.declared.endpoints.Endpoints.{Endpoints}
 use Rattle.auth_router.specs.declared.endpoints.TheConstants.{ENDPOINTS}
@@ -52,7 +52,7 @@ commuted false true = refl
 commuted false false = refl
 
 -- no data are due where a transfer has come to its end
-not_ended : (progress : Progress) → is_data (in_answer progress) ≡ true → progress ≡ StatusOut → ⊥
+not_ended : (progress : Progress) → is_data (in_answer progress) ≡ true → progress ≡ DoneOut → ⊥
 not_ended progress gives e = false≢true (ap (λ (p : Progress). is_data (in_answer p)) (sym e) ∙ gives)
 
 module _ (live : Live) (up : Up) (past : List Entry) (stands : LiveStands live up past) where
@@ -146,7 +146,7 @@ module _ (live : Live) (up : Up) (past : List Entry) (stands : LiveStands live u
   same_forwarding : (acked : Bool) → (after_control_in acked live.control).forwarding ≡ live.control.forwarding
   same_forwarding acked = cond_both (is_withheld live.control) live.control (record live.control { progress = after_in acked live.control.progress }) (λ (c : ControlValue). c.forwarding ≡ live.control.forwarding) (λ _. refl) (λ _. refl)
 
-  not_ended_after : (acked : Bool) → is_withheld live.control ≡ false → is_wanted live.outstanding ≡ true → (after_control_in acked live.control).progress ≡ StatusOut → ⊥
+  not_ended_after : (acked : Bool) → is_withheld live.control ≡ false → is_wanted live.outstanding ≡ true → (after_control_in acked live.control).progress ≡ DoneOut → ⊥
   not_ended_after acked free wanted e =
       in_not_ended acked live.control.progress
       (sym (ap (λ (b : Bool). b && is_data (in_answer live.control.progress)) (ap (λ (f : Forwarding). waits f) (stands.asks wanted))) ∙ free)
@@ -201,7 +201,7 @@ module _ (live : Live) (up : Up) (past : List Entry) (stands : LiveStands live u
         wanted_before true wanted = absurd (false≢true (sym (unwanted live.outstanding) ∙ wanted))
         wanted_before false wanted = wanted
 
-        ended_now : after_out toggle packet live.control.progress ≡ StatusOut → (reads live.control.setup && is_ack (out_answer toggle packet live.control.progress)) ≡ true
+        ended_now : after_out toggle packet live.control.progress ≡ DoneOut → (reads live.control.setup && is_ack (out_answer toggle packet live.control.progress)) ≡ true
         ended_now e =
             ap (λ (s : Setup). reads s && is_ack (out_answer toggle packet live.control.progress)) stands.control.setup_is
             ∙ (ap (λ (p : Progress). reads (setup_after past) && is_ack (out_answer toggle packet p)) stands.control.progress_is

@@ -11,8 +11,8 @@ use Rattle.psd_base.specs.declared.act.Answer.{Answer}
 use Rattle.psd_base.specs.declared.act.Answer.TheVariants as answer
 use Rattle.psd_base.specs.declared.console.JobKind.{JobKind}
 use Rattle.psd_base.specs.declared.console.JobKind.TheVariants as job
-use Rattle.control_pipe.specs.Requests.{when, address_set, configuration_set, address_of, configuration_of}
-use Rattle.control_pipe.specs.Progress.{StatusOut}
+use Rattle.control_pipe.specs.Requests.{when}
+use Rattle.control_pipe.specs.Progress.{DoneOut}
 use Rattle.auth_router.specs.declared.up.Up.{Up}
 use Rattle.auth_router.specs.declared.endpoints.TheConstants.{ENDPOINTS}
 use Rattle.auth_router.specs.declared.control.Forwarding.TheVariants.{Asked}
@@ -20,13 +20,13 @@ use Rattle.auth_router.specs.declared.live.Live.{Live}
 use Rattle.auth_router.specs.declared.live.Outstanding.{Outstanding}
 use Rattle.auth_router.specs.declared.live.Work.TheVariants as work
 use Rattle.auth_router.specs.Entries.{Acted, Request, Entry}
-use Rattle.auth_router.specs.Forwarding.{is_set_address, is_set_configuration, is_passable}
+use Rattle.auth_router.specs.Forwarding.{is_set_configuration, address_told, configuration_told, is_passable}
 use Rattle.auth_router.specs.Bridge.{with_value, is_reset, is_reset_act, completed_requests, is_taken, taken_act, is_delivered_by, is_sent, job_count, reply_with}
 use Rattle.auth_router.specs.EndpointStep.{after_poll_of, after_poll, polled_answer}
 use Rattle.auth_router.specs.ControlStep.{begun}
 use Rattle.auth_router.specs.LiveStep.{is_control_work, new_control, with_job, reset_live, begun_live, orphaned_control, orphaned_endpoint}
 use Rattle.auth_router.specs.BridgeStands.{ControlStands, EndpointsStand, AreWhole, outstanding_after, is_wanted, LiveStands}
-use Rattle.auth_router.proofs.Pasts.{completed_step}
+use Rattle.auth_router.proofs.Pasts.{told_or, completed_step}
 use Rattle.auth_router.proofs.JobSteps.{marked, marked_none, marked_control, marked_all, outstanding_kept}
 use Rattle.auth_router.proofs.EndpointSteps.{none_flagged, none_held, endpoints_kept, endpoints_delivered}
 use Rattle.auth_router.proofs.ControlSteps.{Follows, stands_by, stands_same, follows_reset, follows_begun}
@@ -47,30 +47,30 @@ entry_of taken reply request kind completed ends = record {
 
 abbrev pub address_with : Option Setup → ℕ → ℕ
 address_with None address = address
-address_with (Some setup) address = cond (is_set_address setup) setup.value address
+address_with (Some setup) address = unwrap_or (address_told setup) address
 
 abbrev pub configured_with : Option Setup → Bool → Bool
 configured_with None configured = configured
 configured_with (Some setup) configured = cond (is_set_configuration setup) (not (setup.value == 0)) configured
 
-told_where : (b : Bool) (value : ℕ) (o : Option ℕ) → unwrap_or (or_else (when b value) o) 0 ≡ cond b value (unwrap_or o 0)
-told_where true value o = refl
-told_where false value o = refl
-
-address_step : (completed : Option Setup) (requests : List Setup) → address_of (with_value completed requests) ≡ address_with completed (address_of requests)
+address_step : (completed : Option Setup) (requests : List Setup)
+    → unwrap_or (newest address_told (with_value completed requests)) 0
+    ≡ address_with completed (unwrap_or (newest address_told requests) 0)
 address_step None requests = refl
-address_step (Some setup) requests = told_where (is_set_address setup) setup.value (newest address_set requests)
+address_step (Some setup) requests = told_or (address_told setup) (newest address_told requests) 0
 
-not_cond : (b : Bool) (m n : ℕ) → not (cond b m n == 0) ≡ cond b (not (m == 0)) (not (n == 0))
-not_cond true m n = refl
-not_cond false m n = refl
+abbrev configured_by : List Setup → Bool
+configured_by requests = not (unwrap_or (newest configuration_told requests) 0 == 0)
 
 configured_step : (completed : Option Setup) (requests : List Setup)
-    → not (configuration_of (with_value completed requests) == 0) ≡ configured_with completed (not (configuration_of requests == 0))
+    → configured_by (with_value completed requests) ≡ configured_with completed (configured_by requests)
 configured_step None requests = refl
-configured_step (Some setup) requests =
-    ap (λ (n : ℕ). not (n == 0)) (told_where (is_set_configuration setup) setup.value (newest configuration_set requests))
-    ∙ not_cond (is_set_configuration setup) setup.value (configuration_of requests)
+configured_step (Some setup) requests = told_where (is_set_configuration setup) where
+  told_where : (b : Bool)
+      → not (unwrap_or (or_else (when b setup.value) (newest configuration_told requests)) 0 == 0)
+      ≡ cond b (not (setup.value == 0)) (configured_by requests)
+  told_where true = refl
+  told_where false = refl
 
 -- what isn't answered, or answered NAK, is none of a transfer's acts
 when_both : {V : Type 0} (b : Bool) (v : V) → when (b && false) v ≡ None
@@ -105,17 +105,17 @@ module _ (live : Live) (up : Up) (past : List Entry) (stands : LiveStands live u
       → ControlStands after.control up.max0 (entry ∷ past) → EndpointsStand after.endpoints (entry ∷ past) → AreWhole after.endpoints
       → after.jobs ≡ job_count (entry ∷ past) → after.outstanding ≡ outstanding_after (entry ∷ past)
       → (is_wanted after.outstanding ≡ true → after.control.forwarding ≡ Asked)
-      → (is_wanted after.outstanding ≡ true → after.control.progress ≡ StatusOut → ⊥)
+      → (is_wanted after.outstanding ≡ true → after.control.progress ≡ DoneOut → ⊥)
       → LiveStands after up (entry ∷ past)
   assemble after entry still same address configured control endpoints whole jobs outstanding asks ended = record {
     size = stands.size;
     up_is = same ∙ stands.up_is;
     address_is = address
         ∙ (ap (λ (n : ℕ). address_with entry.completed n) stands.address_is
-        ∙ (sym (address_step entry.completed (completed_requests past)) ∙ ap (λ (rs : List Setup). address_of rs) (sym (completed_step entry past still))));
+        ∙ (sym (address_step entry.completed (completed_requests past)) ∙ ap (λ (rs : List Setup). unwrap_or (newest address_told rs) 0) (sym (completed_step entry past still))));
     configured_is = configured
         ∙ (ap (λ (b : Bool). configured_with entry.completed b) stands.configured_is
-        ∙ (sym (configured_step entry.completed (completed_requests past)) ∙ ap (λ (rs : List Setup). not (configuration_of rs == 0)) (sym (completed_step entry past still))));
+        ∙ (sym (configured_step entry.completed (completed_requests past)) ∙ ap (λ (rs : List Setup). configured_by rs) (sym (completed_step entry past still))));
     control = control;
     endpoints = endpoints;
     whole = whole;

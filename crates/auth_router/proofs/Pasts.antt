@@ -7,7 +7,7 @@ use Rattle.auth_router.specs.Endpoint.{Endpoint}
 use Rattle.auth_router.specs.Entries.{Request, Entry}
 use Rattle.auth_router.specs.Bridge.{with_value, each_of, is_odd_number, is_reset, since_reset, completed_requests, reply_of_item, is_control, last_request, since_request, request_reply, is_job_made, control_act, transfer_acts, makes_job, job_count, last_job, finishes, is_outstanding, is_orphaned_by, is_orphaned, halt_told, is_halted_after, begins_anew, turns, toggle_after, held_told, held_after}
 
-told_or : {V : Type 0} (o p : Option V) (d : V) → unwrap_or (or_else o p) d ≡ unwrap_or o (unwrap_or p d)
+pub told_or : {V : Type 0} (o p : Option V) (d : V) → unwrap_or (or_else o p) d ≡ unwrap_or o (unwrap_or p d)
 told_or None p d = refl
 told_or (Some v) p d = refl
 

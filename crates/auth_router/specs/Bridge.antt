@@ -11,13 +11,13 @@ use Rattle.psd_base.specs.declared.console.Job.{Job}
 use Rattle.psd_base.specs.declared.console.JobKind.{JobKind}
 use Rattle.psd_base.specs.declared.console.JobKind.TheVariants as job
 use Rattle.psd_base.specs.declared.packet.TheConstants.{PACKET_SIZE}
-use Rattle.control_pipe.specs.Requests.{when, address_of, configuration_of}
+use Rattle.control_pipe.specs.Requests.{when}
 use Rattle.control_pipe.specs.Transfer.{Transfer, Form, Reading, Writing, NoData, form_of, received, same_toggle, transfer_answer, is_completed_by}
 use Rattle.auth_router.specs.declared.up.Up.{Up}
 use Rattle.auth_router.specs.Endpoint.{Endpoint}
 use Rattle.auth_router.specs.Endpoint as endpoint
 use Rattle.auth_router.specs.Entries.{BridgeItem, Acted, Done, Request, Entry}
-use Rattle.auth_router.specs.Forwarding.{is_set_address, is_set_configuration, is_passable, restarts}
+use Rattle.auth_router.specs.Forwarding.{is_set_address, is_set_configuration, address_told, configuration_told, is_passable, restarts}
 
 -- Words on the entries
 
@@ -59,10 +59,10 @@ abbrev pub completed_requests : List Entry → List Setup
 completed_requests past = each_of (λ entry. entry.completed) (since_reset past)
 
 abbrev pub address_after : List Entry → ℕ
-address_after past = address_of (completed_requests past)
+address_after past = unwrap_or (newest address_told (completed_requests past)) 0
 
 abbrev pub is_configured_after : List Entry → Bool
-is_configured_after past = not (configuration_of (completed_requests past) == 0)
+is_configured_after past = not (unwrap_or (newest configuration_told (completed_requests past)) 0 == 0)
 
 -- Jobs
 

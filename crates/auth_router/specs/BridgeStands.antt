@@ -5,7 +5,7 @@ use Rattle.psd_base.specs.declared.act.Act.{Act}
 use Rattle.psd_base.specs.declared.act.Act.TheVariants as act
 use Rattle.psd_base.specs.declared.console.JobKind.{JobKind}
 use Rattle.psd_base.specs.declared.console.JobKind.TheVariants as job
-use Rattle.control_pipe.specs.Progress.{StatusOut}
+use Rattle.control_pipe.specs.Progress.{DoneOut}
 use Rattle.control_pipe.specs.PipeStands.{progress_of}
 use Rattle.auth_router.specs.declared.up.Up.{Up}
 use Rattle.auth_router.specs.Endpoint as endpoint
@@ -101,7 +101,7 @@ pub record LiveStands (live : Live) (up : Up) (past : List Entry) : Type 0 where
   pub outstanding_is : live.outstanding ≡ outstanding_after past
   -- an answer is wanted for a transfer that waits for it, and hasn't ended
   pub asks : is_wanted live.outstanding ≡ true → live.control.forwarding ≡ Asked
-  pub ended : is_wanted live.outstanding ≡ true → live.control.progress ≡ StatusOut → ⊥
+  pub ended : is_wanted live.outstanding ≡ true → live.control.progress ≡ DoneOut → ⊥
 
 abbrev pub BridgeStands : Option Live → BridgePast → Type 0
 BridgeStands None IsDown = Unit {0}

@@ -1,10 +1,10 @@
 -- How far the bridge's transfer at endpoint 0 is, and the exact step at each transaction.
-use Rattle.std.specs.Prelude.{ℕ, ◌+◌, ◌*◌, ◌<◌, ◌≤◌, Bool, true, false, not, ◌&&◌, ◌==◌, List, [], length, take, Option, Some, None, if◌then◌else◌}
+use Rattle.std.specs.Prelude.{ℕ, ◌+◌, ◌*◌, ◌<◌, ◌≤◌, Bool, true, false, not, ◌&&◌, ◌==◌, List, [], length, take, Option, None, option_map, if◌then◌else◌}
 use Rattle.psd_base.specs.declared.setup.Setup.{Setup}
 use Rattle.psd_base.specs.declared.act.Answer.{Answer}
 use Rattle.psd_base.specs.declared.packet.TheConstants.{PACKET_SIZE, BLOCK_SIZE}
 use Rattle.control_pipe.specs.Transfer.{Form, Reading, Writing, NoData, form_of, packets_of}
-use Rattle.control_pipe.specs.Progress.{Progress, Refusing, DataIn, StatusOut, DataOut, StatusIn, in_answer, after_in, after_out}
+use Rattle.control_pipe.specs.Progress.{Progress, Refusing, DataIn, StatusOut, DoneOut, DataOut, StatusIn, in_answer, after_in, after_out, completion}
 use Rattle.auth_router.specs.declared.control.Stage.{Stage}
 use Rattle.auth_router.specs.declared.control.Stage.TheVariants as stage
 use Rattle.auth_router.specs.declared.control.Forwarding.{Forwarding}
@@ -23,6 +23,7 @@ abbrev pub progress_in : Stage → Setup → List ℕ → ℕ → Progress
 progress_in stage.Refusing setup bytes maximum = Refusing
 progress_in (stage.DataIn sent count) setup bytes maximum = DataIn bytes maximum count sent
 progress_in stage.StatusOut setup bytes maximum = StatusOut
+progress_in stage.DoneOut setup bytes maximum = DoneOut
 progress_in (stage.DataOut toggle) setup bytes maximum = DataOut setup bytes toggle
 progress_in stage.StatusIn setup bytes maximum = StatusIn setup
 
@@ -31,6 +32,7 @@ abbrev pub IsSoundAt : Stage → Setup → List ℕ → ℕ → Type 0
 IsSoundAt stage.Refusing setup bytes maximum = Unit {0}
 IsSoundAt (stage.DataIn sent count) setup bytes maximum = (sent < count) × (count * maximum ≤ length bytes + maximum) × (0 < setup.length) × (setup.length ≤ BLOCK_SIZE)
 IsSoundAt stage.StatusOut setup bytes maximum = Unit {0}
+IsSoundAt stage.DoneOut setup bytes maximum = Unit {0}
 IsSoundAt (stage.DataOut toggle) setup bytes maximum = (setup.length ≤ BLOCK_SIZE) × (length bytes ≤ setup.length)
 IsSoundAt stage.StatusIn setup bytes maximum = Unit {0}
 
@@ -90,6 +92,7 @@ abbrev pub answered : Setup → ℕ → List ℕ → Progress → Progress
 answered setup maximum bytes Refusing = Refusing
 answered setup maximum bytes (DataIn old size count sent) = DataIn (take setup.length bytes) maximum (packets_of (length (take setup.length bytes)) setup.length maximum) 0
 answered setup maximum bytes StatusOut = StatusOut
+answered setup maximum bytes DoneOut = DoneOut
 answered setup maximum bytes (DataOut kept old next) = DataOut kept old next
 answered setup maximum bytes (StatusIn kept) = StatusIn kept
 
@@ -101,11 +104,7 @@ settled_control status bytes control = record control {
 
 -- the setup of the request that an acknowledged IN completes
 abbrev pub completed_setup : Progress → Option Setup
-completed_setup Refusing = None
-completed_setup (DataIn bytes maximum count sent) = None
-completed_setup StatusOut = None
-completed_setup (DataOut setup bytes next) = if length bytes == setup.length then Some setup else None
-completed_setup (StatusIn setup) = Some setup
+completed_setup progress = option_map (λ (done : Setup × List ℕ). done.0) (completion progress)
 
 abbrev pub control_completes : Bool → ControlValue → Option Setup
 control_completes acked control = if acked && not (waits control.forwarding) then completed_setup control.progress else None
@@ -115,5 +114,6 @@ abbrev pub sent_bytes : Progress → List ℕ
 sent_bytes Refusing = []
 sent_bytes (DataIn bytes maximum count sent) = []
 sent_bytes StatusOut = []
+sent_bytes DoneOut = []
 sent_bytes (DataOut setup bytes next) = bytes
 sent_bytes (StatusIn setup) = []

@@ -1,30 +1,40 @@
 -- Which requests a computer may send to the token, and which of them concern the bridge itself.
-use Rattle.std.specs.Prelude.{ℕ, ◌+◌, ◌%◌, Bool, true, not, ◌&&◌, ◌||◌, ◌==◌, nat_lt, nat_le, if◌then◌else◌}
+use Rattle.std.specs.Prelude.{ℕ, ◌+◌, ◌%◌, Bool, true, not, ◌&&◌, ◌||◌, ◌==◌, nat_le, Option, is_some, if◌then◌else◌}
+use Rattle.std.specs.Option.{option_and_then}
 use Rattle.psd_base.specs.declared.setup.Setup.{Setup}
 use Rattle.psd_base.specs.declared.packet.TheConstants.{BLOCK_SIZE}
-use Rattle.control_pipe.specs.Requests.{is_request}
+use Rattle.control_pipe.specs.declared.codes.TheConstants.{TO_DEVICE, TO_INTERFACE, TO_ENDPOINT, CLEAR_FEATURE, SET_ADDRESS, SET_CONFIGURATION, SET_INTERFACE, ENDPOINT_HALT}
+use Rattle.control_pipe.specs.Requests.{when, is_request, request_of, address_set}
 use Rattle.auth_router.specs.Endpoint.{Endpoint}
 use Rattle.auth_router.specs.Endpoint as endpoint
 
 abbrev pub is_set_address : Setup → Bool
-is_set_address setup = is_request 0x00 0x05 setup
+is_set_address setup = is_request TO_DEVICE SET_ADDRESS setup
 
 abbrev pub is_set_configuration : Setup → Bool
-is_set_configuration setup = is_request 0x00 0x09 setup
+is_set_configuration setup = is_request TO_DEVICE SET_CONFIGURATION setup
 
 abbrev pub is_set_interface : Setup → Bool
-is_set_interface setup = is_request 0x01 0x0b setup
+is_set_interface setup = is_request TO_INTERFACE SET_INTERFACE setup
 
 -- CLEAR_FEATURE of an endpoint's halt
 abbrev pub is_clear_halt : Setup → Bool
-is_clear_halt setup = is_request 0x02 0x01 setup && setup.value == 0
+is_clear_halt setup = is_request TO_ENDPOINT CLEAR_FEATURE setup && setup.value == ENDPOINT_HALT
+
+-- the address that a setup sets, if it sets one
+abbrev pub address_told : Setup → Option ℕ
+address_told setup = option_and_then address_set (request_of setup)
+
+-- the configuration that a completed setup sets, if it sets one: any value that the token has
+abbrev pub configuration_told : Setup → Option ℕ
+configuration_told setup = when (is_set_configuration setup) setup.value
 
 -- Whether the bridge lets a request pass, where the token's configuration has this value. The other requests are answered
 -- with a request error.
 abbrev pub is_passable : ℕ → Bool → Setup → Bool
 is_passable value configured setup =
     nat_le setup.length BLOCK_SIZE &&
-    (if is_set_address setup then nat_lt setup.value 128 && setup.index == 0 && setup.length == 0 && not configured else
+    (if is_set_address setup then is_some (address_told setup) && not configured else
     (if is_set_configuration setup then setup.value == 0 || setup.value == value else
     (if is_set_interface setup then setup.value == 0 else
     true)))

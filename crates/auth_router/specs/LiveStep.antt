@@ -1,5 +1,5 @@
 -- The exact steps of a bridge that is up.
-use Rattle.std.specs.Prelude.{ℕ, ◌+◌, Bool, true, false, not, ◌&&◌, ◌||◌, ◌==◌, List, Option, Some, None, is_some, option_map, if◌then◌else◌}
+use Rattle.std.specs.Prelude.{ℕ, ◌+◌, Bool, true, false, not, ◌&&◌, ◌||◌, ◌==◌, List, Option, Some, None, is_some, unwrap_or, option_map, if◌then◌else◌}
 use Rattle.psd_base.specs.declared.setup.Setup.{Setup}
 use Rattle.psd_base.specs.declared.act.Act.{Act}
 use Rattle.psd_base.specs.declared.act.Act.TheVariants as act
@@ -16,7 +16,7 @@ use Rattle.auth_router.specs.declared.live.Outstanding.{Outstanding}
 use Rattle.auth_router.specs.declared.live.Work.{Work}
 use Rattle.auth_router.specs.declared.live.Work.TheVariants as work
 use Rattle.auth_router.specs.declared.control.Forwarding.TheVariants.{Known, Asked}
-use Rattle.auth_router.specs.Forwarding.{is_set_address, is_set_configuration, is_set_interface, is_clear_halt, is_passable}
+use Rattle.auth_router.specs.Forwarding.{address_told, is_set_configuration, is_set_interface, is_clear_halt, is_passable}
 use Rattle.auth_router.specs.Bridge.{is_in_set, is_ack, is_nak, reads}
 use Rattle.auth_router.specs.ControlStep.{ControlValue, begun, is_due, is_withheld, control_in_answer, after_control_in, after_control_out, control_completes, sent_bytes, settled_control}
 use Rattle.auth_router.specs.EndpointStep.{idle, restarted, restarted_at, polled_answer, after_poll, out_reply, out_sends, after_out, after_in_answer, after_out_answer}
@@ -74,7 +74,7 @@ endpoints_after setup endpoints =
 
 abbrev pub completed_live : Setup → Live → Live
 completed_live setup live = record live {
-  address = if is_set_address setup then setup.value else live.address;
+  address = unwrap_or (address_told setup) live.address;
   configured = if is_set_configuration setup then not (setup.value == 0) else live.configured;
   endpoints = endpoints_after setup live.endpoints;
   outstanding = if is_set_configuration setup then orphaned_endpoint live.outstanding else live.outstanding;

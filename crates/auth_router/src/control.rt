@@ -1,14 +1,15 @@
 //! The transfer at endpoint 0 of the bridge: its stages, and what it waits for.
-ghost use Rattle.std.specs.Prelude.{◌≡◌, ◌+◌, ◌*◌, ◌%◌, ◌==◌, ◌<◌, ◌≤◌, IsTrue, true, [], length, take, drop, not, ◌&&◌, if◌then◌else◌};
+ghost use Rattle.std.specs.Prelude.{◌≡◌, ◌+◌, ◌*◌, ◌%◌, ◌==◌, ◌<◌, ◌≤◌, IsTrue, true, [], length, take, drop, not, if◌then◌else◌};
 ghost use Rattle.control_pipe.specs.Transfer.{packets_of, form_of};
 ghost use Rattle.auth_router.specs.ControlStep.{forwarding_for, stage_for, is_due};
 ghost use Rattle.auth_router.specs.Bridge.{reads};
 ghost use Rattle.psd_base.specs.declared.packet.TheConstants.{PACKET_SIZE};
-ghost use Rattle.control_pipe.specs.Progress.{Refusing, StatusOut, in_answer, out_answer, after_in};
+ghost use Rattle.control_pipe.specs.Progress.{Refusing, DoneOut, is_status_out, in_answer, out_answer, after_in};
 ghost use Rattle.auth_router.specs.Forwarding.{is_set_address};
 
 use crate::request::is_set_address;
 use arrayvec::ArrayVec;
+use control_pipe::codes::TO_HOST;
 use psd_base::act::Answer;
 use psd_base::packet::{BLOCK_SIZE, Block, Packet};
 use psd_base::setup::Setup;
@@ -21,8 +22,10 @@ pub(crate) enum Stage {
     Refusing,
     /// The data go to the host, in `count` packets, of which `sent` were acknowledged.
     DataIn { sent: usize, count: usize },
-    /// The host's empty packet, which ends a transfer whose data went to it, is awaited or came already.
+    /// The data are acknowledged, and the host's empty packet, which ends the transfer, is awaited.
     StatusOut,
+    /// The host's empty packet came, and may be repeated.
+    DoneOut,
     /// The data come from the host. `toggle` is that of the next packet.
     DataOut { toggle: bool },
     /// There are no data, and the empty packet that ends the transfer is due.
@@ -160,6 +163,7 @@ impl Control {
             Stage::Refusing => false,
             Stage::DataIn { .. } => true,
             Stage::StatusOut => false,
+            Stage::DoneOut => false,
             Stage::DataOut { .. } => self.bytes.len() == self.setup.length as usize,
             Stage::StatusIn => true,
         }
@@ -169,7 +173,7 @@ impl Control {
     pub(crate) fn reads(&self) -> bool
         ensures { result ≡ reads self.now.setup }
     {
-        self.setup.length != 0 && self.setup.kind >= 0x80
+        self.setup.length != 0 && self.setup.kind >= TO_HOST
     }
 
     /// The token was asked.
@@ -194,6 +198,7 @@ impl Control {
             Stage::Refusing => Block::new(),
             Stage::DataIn { .. } => Block::new(),
             Stage::StatusOut => Block::new(),
+            Stage::DoneOut => Block::new(),
             Stage::DataOut { .. } => Block::from_slice(self.bytes.as_slice()),
             Stage::StatusIn => Block::new(),
         }
@@ -210,6 +215,7 @@ impl Control {
             Stage::Refusing => None,
             Stage::DataIn { .. } => None,
             Stage::StatusOut => None,
+            Stage::DoneOut => None,
             Stage::DataOut { .. } => {
                 if self.bytes.len() == self.setup.length as usize {
                     Some(self.setup)
@@ -254,6 +260,7 @@ impl Control {
                 }
             }
             Stage::StatusOut => self.stall(answer),
+            Stage::DoneOut => self.stall(answer),
             Stage::DataOut { .. } => {
                 if self.bytes.len() == self.setup.length as usize {
                     self.end(acked, answer);
@@ -274,6 +281,7 @@ impl Control {
             Stage::Refusing => self.stall(answer),
             Stage::DataIn { .. } => self.take_status(toggle, packet, answer),
             Stage::StatusOut => self.take_status(toggle, packet, answer),
+            Stage::DoneOut => self.take_status(toggle, packet, answer),
             Stage::DataOut { toggle: next } => {
                 if toggle != next {
                     *answer = Answer::Ack;
@@ -312,6 +320,7 @@ impl Control {
                 bytes,
             ),
             Stage::StatusOut => {}
+            Stage::DoneOut => {}
             Stage::DataOut { .. } => {}
             Stage::StatusIn => {}
         }
@@ -319,13 +328,12 @@ impl Control {
 
     /// Takes an OUT that can only be the status stage.
     fn take_status(&mut self, toggle: bool, packet: &[u8], answer: &mut Answer)
-        ensures answer { answer.new
-            ≡ (if toggle && length packet.now == 0 then Answer.Ack else Answer.Stall) }
+        ensures answer { answer.new ≡ (if is_status_out toggle packet.now then Answer.Ack else Answer.Stall) }
         ensures after { self.new
-            ≡ record self.old { progress = if toggle && length packet.now == 0 then StatusOut else Refusing } }
+            ≡ record self.old { progress = if is_status_out toggle packet.now then DoneOut else Refusing } }
     {
         if toggle && packet.is_empty() {
-            self.stage = Stage::StatusOut;
+            self.stage = Stage::DoneOut;
             *answer = Answer::Ack;
         } else {
             self.stall(answer);
@@ -373,7 +381,7 @@ fn first_stage(setup: &Setup) -> Stage
 {
     if setup.length == 0 {
         Stage::StatusIn
-    } else if setup.kind < 0x80 {
+    } else if setup.kind < TO_HOST {
         Stage::DataOut { toggle: true }
     } else {
         Stage::DataIn { sent: 0, count: 1 }

@@ -10,7 +10,7 @@ ghost use Rattle.auth_router.specs.Bridge.{is_ack, is_nak};
 use crate::control::Control;
 use crate::endpoints::{ENDPOINTS, Endpoints, is_in_set};
 use crate::request::{
-    is_clear_halt, is_passable, is_set_address, is_set_configuration, is_set_interface,
+    address_told, is_clear_halt, is_passable, is_set_configuration, is_set_interface,
 };
 use crate::up::Up;
 use psd_base::act::{Act, Answer};
@@ -349,8 +349,8 @@ impl Live {
     fn complete(&mut self, setup: &Setup)
         ensures { self.new ≡ completed_live setup.now self.old }
     {
-        if is_set_address(setup) {
-            self.address = setup.value;
+        if let Some(address) = address_told(setup) {
+            self.address = address;
         }
         if is_set_configuration(setup) {
             self.configured = setup.value != 0;
