@@ -1,9 +1,7 @@
 -- The bridge's transfer at endpoint 0, one entry further.
-use Rattle.std.proofs.Common.{◌≡◌, ℕ, ◌+◌, ◌-◌, ◌/◌, ◌<◌, Bool, true, false, not, List, [], ◌∷◌, length, take, Option, Some, None, cond, refl, sym, ap, ◌∙◌, arith}
+use Rattle.std.proofs.Common.{◌≡◌, ℕ, ◌+◌, ◌<◌, Bool, true, false, not, List, [], ◌∷◌, length, take, Option, Some, None, cond, refl, sym, ap, ◌∙◌, arith}
 use Rattle.std.specs.Prelude.{◌&&◌, ◌||◌, ◌==◌, nat_lt, is_some, option_map}
-use Rattle.std.proofs.lemmas.Bool.{cond_both, false≢true, true≢false, cond-true, lt-ltb, eqb-false, ne_eqb, and_from}
-use Rattle.std.proofs.Math.Nat.{zero-div}
-use Rattle.std.proofs.Math.Seq.{take-nil}
+use Rattle.std.proofs.lemmas.Bool.{cond_both, false≢true, true≢false, lt-ltb, eqb-false, ne_eqb, and_from}
 use Rattle.psd_base.specs.History.{or_else, number_of}
 use Rattle.psd_base.specs.declared.setup.Setup.{Setup}
 use Rattle.psd_base.specs.declared.act.Act.{Act}
@@ -12,7 +10,7 @@ use Rattle.psd_base.specs.declared.act.Answer.{Answer}
 use Rattle.psd_base.specs.declared.act.Answer.TheVariants as answer
 use Rattle.control_pipe.specs.Requests.{when}
 use Rattle.control_pipe.specs.Transfer.{Transfer, Form, Reading, Writing, NoData, form_of, is_fit, each_fit, all_fit, is_completed_by, packets_of, packet_count, cut_data, is_out, is_acked_in, is_open, received, expected_toggle, same_toggle, has_status_in}
-use Rattle.control_pipe.specs.Progress.{Progress, Refusing, DataIn, StatusOut, DoneOut, DataOut, StatusIn, in_answer, after_in, out_answer, after_out, is_room_for}
+use Rattle.control_pipe.specs.Progress.{Progress, Refusing, DataIn, StatusOut, DoneOut, DataOut, StatusIn, first_stage, begun_progress, in_answer, after_in, out_answer, after_out, is_room_for}
 use Rattle.control_pipe.specs.PipeStands.{progress_of, progress_of_form, reading_progress, writing_progress, status_progress}
 use Rattle.control_pipe.proofs.Stages.{contents_of, transfer_answer-In, transfer_answer-Out, progress_of-In, progress_of-Out, completed_by_In}
 use Rattle.auth_router.specs.declared.control.Forwarding.{Forwarding}
@@ -20,7 +18,7 @@ use Rattle.auth_router.specs.declared.control.Forwarding.TheVariants.{Known, Due
 use Rattle.auth_router.specs.Entries.{Request, Entry}
 use Rattle.auth_router.specs.Forwarding.{is_set_address}
 use Rattle.auth_router.specs.Bridge.{with_value, is_reset, is_data, is_taken, withheld, answer_in, completed_in, Reply, reply_of_item, is_control, last_request, request_reply, is_job_made, is_waiting, is_waiting_for, control_act, transfer_acts, due_of, transfer_for, payload, payload_of, reads, is_reading, is_ack, is_nak, waits_for}
-use Rattle.auth_router.specs.ControlStep.{ControlValue, waits, is_withheld, after_control_in, after_control_out, completed_setup, sent_bytes, opened, begun, answered, settled_control}
+use Rattle.auth_router.specs.ControlStep.{ControlValue, waits, is_withheld, after_control_in, after_control_out, completed_setup, sent_bytes, begun, answered, settled_control}
 use Rattle.auth_router.specs.LiveStep.{new_control}
 use Rattle.auth_router.specs.BridgeStands.{setup_of_request, forwarding_of, begins_with_out, ControlStands}
 use Rattle.auth_router.proofs.Settles.{some_packets}
@@ -134,32 +132,27 @@ out_progress : (toggle : Bool) (packet : List ℕ) (maximum : ℕ) (reply : Opti
 out_progress toggle packet maximum reply acts None address = refl
 out_progress toggle packet maximum reply acts (Some request) address = sym (progress_of-Out (transfer_for maximum reply acts request) address 0 toggle packet)
 
--- one packet of no bytes is due before anything is known
-abbrev no_bytes : List ℕ
-no_bytes = []
+-- the first stage of a transfer
+fresh_reading : (setup : Setup) (maximum : ℕ) (due : List ℕ) → 0 < maximum → 0 < setup.length
+    → progress_of_form Reading (record { setup = setup; due = Some due; maximum = maximum; acts = [] })
+    ≡ first_stage maximum Reading setup (take setup.length due)
+fresh_reading setup maximum due positive some =
+    let count : ℕ = packets_of (length (take setup.length due)) setup.length maximum in
+    ap (λ (b : Bool). reading_progress true b (take setup.length due) maximum count 0)
+    (lt-ltb 0 count (some_packets (length (take setup.length due)) setup.length maximum some positive))
 
-none_taken : (n : ℕ) → take n no_bytes ≡ no_bytes
-none_taken n = take-nil n
-
-one_packet : (n maximum : ℕ) → 0 < n → 0 < maximum → packets_of (length (take n no_bytes)) n maximum ≡ 1
-one_packet n maximum some positive =
-    ap (λ (bytes : List ℕ). packets_of (length bytes) n maximum) (none_taken n)
-    ∙ (cond-true (nat_lt 0 n) (0 / maximum + 1) ((0 + (maximum - 1)) / maximum) (lt-ltb 0 n some)
-    ∙ ap (λ (q : ℕ). q + 1) (zero-div maximum))
-
--- the first stage of a transfer of which nothing is known
 first_of_form : (none writes : Bool) (maximum : ℕ) (setup : Setup) → 0 < maximum → none ≡ (setup.length == 0)
     → progress_of_form (cond none NoData (cond writes Writing Reading)) (record { setup = setup; due = Some []; maximum = maximum; acts = [] })
-    ≡ opened (cond none NoData (cond writes Writing Reading)) maximum setup
+    ≡ first_stage maximum (cond none NoData (cond writes Writing Reading)) setup (take setup.length [])
 first_of_form true writes maximum setup positive e = refl
 first_of_form false true maximum setup positive e = refl
 first_of_form false false maximum setup positive e =
-    rw (one_packet setup.length maximum (positive_from setup.length (eqb-false setup.length 0 (sym e))) positive, none_taken setup.length) refl where
+    fresh_reading setup maximum [] positive (positive_from setup.length (eqb-false setup.length 0 (sym e))) where
       positive_from : (n : ℕ) → (n ≡ 0 → ⊥) → 0 < n
       positive_from n h = omega (arith, h)
 
 first_progress : (passes : Bool) (maximum : ℕ) (setup : Setup) → 0 < maximum
-    → cond passes (opened (form_of setup) maximum setup) Refusing ≡ progress_of (Some (transfer_for maximum None [] (record { setup = setup; supported = passes })))
+    → begun_progress maximum setup (when passes []) ≡ progress_of (Some (transfer_for maximum None [] (record { setup = setup; supported = passes })))
 first_progress false maximum setup positive = refl
 first_progress true maximum setup positive = sym (first_of_form (setup.length == 0) (nat_lt setup.kind 128) maximum setup positive refl)
 
@@ -172,7 +165,7 @@ pub follows_begun : (control : ControlValue) (maximum : ℕ) (setup : Setup) (pa
     → Follows (begun setup passes control) maximum (Some (record { setup = setup; supported = passes })) None false []
 follows_begun control maximum setup passes positive same = record {
   setup_is = refl;
-  progress_is = ap (λ (m : ℕ). cond passes (opened (form_of setup) m setup) Refusing) same ∙ first_progress passes maximum setup positive;
+  progress_is = ap (λ (m : ℕ). begun_progress m setup (when passes [])) same ∙ first_progress passes maximum setup positive;
   forwarding_is = first_forwarding passes (is_set_address setup);
   maximum_is = same;
   early = λ _ _. refl;
@@ -184,7 +177,7 @@ fresh_of_form : (none writes : Bool) (maximum : ℕ) (setup : Setup) → 0 < max
 fresh_of_form none writes maximum setup positive e reading =
     ap (λ (p : Progress). is_data (in_answer p)) (first_of_form none writes maximum setup positive e) ∙ opened_data none writes reading where
       opened_data : (none writes : Bool) → is_reading (cond none NoData (cond writes Writing Reading)) ≡ true
-          → is_data (in_answer (opened (cond none NoData (cond writes Writing Reading)) maximum setup)) ≡ true
+          → is_data (in_answer (first_stage maximum (cond none NoData (cond writes Writing Reading)) setup (take setup.length []))) ≡ true
       opened_data true writes reading = absurd (false≢true reading)
       opened_data false true reading = absurd (false≢true reading)
       opened_data false false reading = refl
@@ -309,9 +302,8 @@ fresh_answered : (setup : Setup) (maximum : ℕ) (bytes : List ℕ) → 0 < maxi
     → answered setup maximum bytes (progress_of_form Reading (record { setup = setup; due = Some []; maximum = maximum; acts = [] }))
     ≡ progress_of_form Reading (record { setup = setup; due = Some bytes; maximum = maximum; acts = [] })
 fresh_answered setup maximum bytes positive some =
-    ap (λ (count : ℕ). answered setup maximum bytes (reading_progress true (nat_lt 0 count) (take setup.length []) maximum count 0)) (one_packet setup.length maximum some positive)
-    ∙ sym (ap (λ (b : Bool). reading_progress true b (take setup.length bytes) maximum (packets_of (length (take setup.length bytes)) setup.length maximum) 0)
-    (lt-ltb 0 (packets_of (length (take setup.length bytes)) setup.length maximum) (some_packets (length (take setup.length bytes)) setup.length maximum some positive)))
+    ap (λ (p : Progress). answered setup maximum bytes p) (fresh_reading setup maximum [] positive some)
+    ∙ sym (fresh_reading setup maximum bytes positive some)
 
 answered_status : (left : Bool) (setup kept : Setup) (maximum : ℕ) (bytes : List ℕ) → answered setup maximum bytes (status_progress left kept) ≡ status_progress left kept
 answered_status true setup kept maximum bytes = refl

@@ -3,8 +3,9 @@ use Rattle.std.specs.Prelude.{ℕ, ◌+◌, ◌*◌, ◌<◌, ◌≤◌, Bool, t
 use Rattle.psd_base.specs.declared.setup.Setup.{Setup}
 use Rattle.psd_base.specs.declared.act.Answer.{Answer}
 use Rattle.psd_base.specs.declared.packet.TheConstants.{PACKET_SIZE, BLOCK_SIZE}
-use Rattle.control_pipe.specs.Transfer.{Form, Reading, Writing, NoData, form_of, packets_of}
-use Rattle.control_pipe.specs.Progress.{Progress, Refusing, DataIn, StatusOut, DoneOut, DataOut, StatusIn, in_answer, after_in, after_out, completion}
+use Rattle.control_pipe.specs.Requests.{when}
+use Rattle.control_pipe.specs.Transfer.{Form, Reading, Writing, NoData}
+use Rattle.control_pipe.specs.Progress.{Progress, Refusing, DataIn, StatusOut, DoneOut, DataOut, StatusIn, first_stage, begun_progress, in_answer, after_in, after_out, completion}
 use Rattle.auth_router.specs.declared.control.Stage.{Stage}
 use Rattle.auth_router.specs.declared.control.Stage.TheVariants as stage
 use Rattle.auth_router.specs.declared.control.Forwarding.{Forwarding}
@@ -51,12 +52,7 @@ is_due Known = false
 is_due Due = true
 is_due Asked = false
 
--- a request was taken
-abbrev pub opened : Form → ℕ → Setup → Progress
-opened Reading maximum setup = DataIn [] maximum 1 0
-opened Writing maximum setup = DataOut setup [] true
-opened NoData maximum setup = StatusIn setup
-
+-- A request was taken, of which no data are known yet: data to the host begin with one packet, which is withheld.
 abbrev pub stage_for : Form → Stage
 stage_for Reading = stage.DataIn 0 1
 stage_for Writing = stage.DataOut true
@@ -68,7 +64,7 @@ forwarding_for setup passes = if passes && not (is_set_address setup) then Due e
 abbrev pub begun : Setup → Bool → ControlValue → ControlValue
 begun setup passes control = record {
   setup = setup;
-  progress = if passes then opened (form_of setup) control.maximum setup else Refusing;
+  progress = begun_progress control.maximum setup (when passes []);
   forwarding = forwarding_for setup passes;
   maximum = control.maximum;
 }
@@ -90,7 +86,7 @@ after_control_out toggle packet control = record control { progress = after_out 
 -- the token's answer
 abbrev pub answered : Setup → ℕ → List ℕ → Progress → Progress
 answered setup maximum bytes Refusing = Refusing
-answered setup maximum bytes (DataIn old size count sent) = DataIn (take setup.length bytes) maximum (packets_of (length (take setup.length bytes)) setup.length maximum) 0
+answered setup maximum bytes (DataIn old size count sent) = first_stage maximum Reading setup (take setup.length bytes)
 answered setup maximum bytes StatusOut = StatusOut
 answered setup maximum bytes DoneOut = DoneOut
 answered setup maximum bytes (DataOut kept old next) = DataOut kept old next

@@ -25,7 +25,8 @@ is_clear_halt setup = is_request TO_ENDPOINT CLEAR_FEATURE setup && setup.value 
 abbrev pub address_told : Setup → Option ℕ
 address_told setup = option_and_then address_set (request_of setup)
 
--- the configuration that a completed setup sets, if it sets one: any value that the token has
+-- The configuration that a completed setup sets, if it sets one. The token's may have any value, so these aren't the
+-- requests of an emulated device, which has the values 0 and 1.
 abbrev pub configuration_told : Setup → Option ℕ
 configuration_told setup = when (is_set_configuration setup) setup.value
 
