@@ -1,8 +1,8 @@
 -- What a key latch stands for after each call.
-use Rattle.std.proofs.Common.{◌≡◌, ℕ, ◌+◌, ◌-◌, ◌≤◌, Bool, true, false, not, ◌&&◌, List, [], ◌∷◌, ◌++◌, length, map, drop, slice_get, refl, sym, ap, ◌∙◌, subst, arith, Option, Some, None, length-append, length-drop, nat_le, nat_lt, ◌||◌}
+use Rattle.std.proofs.Common.{◌≡◌, ℕ, ◌+◌, ◌-◌, ◌≤◌, Bool, true, false, not, ◌&&◌, List, [], ◌∷◌, ◌++◌, length, map, drop, slice_get, refl, sym, ap, ◌∙◌, subst, arith, Option, Some, None, length-append, length-drop, nat_le, nat_lt, ◌||◌, IfSome, IsTrue}
 use Rattle.std.proofs.lemmas.Bool.{and_parts, leb-true}
 use Rattle.std.proofs.lemmas.List.{drop-drop, drop-append-le}
-use Rattle.psd_base.specs.KeySet.{is_ordinary, no_keys, has_key, difference, keys_from}
+use Rattle.psd_base.specs.KeySet.{is_passed_on, is_ordinary, no_keys, has_key, difference, keys_from}
 use Rattle.psd_base.proofs.KeySetLemmas.{has_key-difference}
 use Rattle.psd_base.proofs.KeyWordLemmas.{keys_from-none}
 use Rattle.input_latch.specs.declared.key_class.KeyClass.{KeyClass}
@@ -15,6 +15,7 @@ use Rattle.input_latch.specs.declared.offered.TheConstants.{PLACES}
 use Rattle.input_latch.specs.KeyClass.{first_of, last_of, keys_of, number_in, number_of_keys}
 use Rattle.input_latch.specs.KeyHistory.{KeyEntry, Shown, Took, Flushed, Cleared, last_shown, delivered, changes_between, held_with, held_from, held_after, can_press, verdict_on, Offering, offered_one, offered_all, accepted, counts_of}
 use Rattle.input_latch.specs.KeyLatchStands.{KeyLatchValue, KeyLatchStands}
+use Rattle.input_latch.specs.PassedKeys.{usage_of, are_passed_on}
 use Rattle.input_latch.specs.KeySteps.{KeyState, key_state, with_verdict, step_of, steps_of}
 use Rattle.input_latch.specs.Verdict.{Verdict, Taken, Refused, PassedOver, counted, appended, nothing_offered}
 use Rattle.input_latch.proofs.KeyCounts.{number_in-none}
@@ -23,7 +24,7 @@ pub none_held : number_of_keys no_keys ≡ 0
 none_held = omega (arith, number_in-none.0, number_in-none.1)
 
 -- held keys, change by change
-held_from-append : (keys : List Bool) (changes : List KeyChange) (change : KeyChange) → held_from keys (changes ++ change ∷ []) ≡ held_with (held_from keys changes) change
+pub held_from-append : (keys : List Bool) (changes : List KeyChange) (change : KeyChange) → held_from keys (changes ++ change ∷ []) ≡ held_with (held_from keys changes) change
 unfolding held_from
 held_from-append keys [] change = refl
 held_from-append keys (first ∷ changes) change = held_from-append (held_with keys first) changes change
@@ -212,3 +213,26 @@ module _ (latch : KeyLatchValue) (past : List KeyEntry) (keys : List Bool) (stan
 -- a press that can be taken leaves a place for its release
 pub can_press-places : (waiting : ℕ) (holds : List Bool) (usage : ℕ) → can_press waiting holds usage ≡ true → waiting + number_of_keys holds + 2 ≤ PLACES
 can_press-places waiting holds usage can = leb-true (waiting + number_of_keys holds + 2) PLACES (and_parts (nat_le (waiting + number_of_keys holds + 2) PLACES) (not (is_ordinary usage) || nat_lt (number_in Ordinary holds) KEYS_MAX) can).0
+
+-- changes of keys that are passed on
+pub are_passed_on-append : (changes : List KeyChange) (change : KeyChange) → are_passed_on changes ≡ true → is_passed_on (usage_of change) ≡ true → are_passed_on (changes ++ change ∷ []) ≡ true
+unfolding are_passed_on
+are_passed_on-append [] change all one = rw one refl
+are_passed_on-append (first ∷ changes) change all one =
+    let p = and_parts (is_passed_on (usage_of first)) (are_passed_on changes) all in
+    rw (p.0, are_passed_on-append changes change p.1 one) refl
+
+pub are_passed_on-rest : (changes : List KeyChange) → are_passed_on changes ≡ true → are_passed_on (drop 1 changes) ≡ true
+unfolding are_passed_on
+are_passed_on-rest [] all = refl
+are_passed_on-rest (first ∷ changes) all = (and_parts (is_passed_on (usage_of first)) (are_passed_on changes) all).1
+
+pub are_passed_on-first : (changes : List KeyChange) (given : Option KeyChange) → given ≡ slice_get changes 0 → are_passed_on changes ≡ true → IfSome given (λ change. IsTrue (is_passed_on (usage_of change)))
+unfolding are_passed_on
+are_passed_on-first [] given is all = subst (λ (o : Option KeyChange). IfSome o (λ change. IsTrue (is_passed_on (usage_of change)))) (sym is) tt
+are_passed_on-first (first ∷ changes) given is all =
+    subst (λ (o : Option KeyChange). IfSome o (λ change. IsTrue (is_passed_on (usage_of change)))) (sym is) (and_parts (is_passed_on (usage_of first)) (are_passed_on changes) all).0
+
+pub none_passed_on : are_passed_on [] ≡ true
+unfolding are_passed_on
+none_passed_on = refl

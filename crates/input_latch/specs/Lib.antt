@@ -7,6 +7,7 @@ pub mod KeyLatch
 pub mod KeyLatchStands
 pub mod KeySteps
 pub mod Motion
+pub mod PassedKeys
 pub mod PointerHistory
 pub mod PointerLatch
 pub mod PointerLatchStands

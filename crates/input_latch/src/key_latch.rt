@@ -1,5 +1,5 @@
 //! The latch of the keyboard.
-ghost use Rattle.std.specs.Prelude.{◌≡◌, ◌+◌, ◌-◌, ◌<◌, ◌≤◌, ◌^◌, List, [], ◌∷◌, map, length, IfOk, IsTrue};
+ghost use Rattle.std.specs.Prelude.{◌≡◌, ◌+◌, ◌-◌, ◌<◌, ◌≤◌, ◌^◌, List, [], ◌∷◌, map, length, IfOk, IfSome, IsTrue};
 ghost use Rattle.psd_base.specs.KeySet.{is_passed_on};
 ghost use Rattle.input_latch.specs.KeyClass.{keys_of};
 ghost use Rattle.input_latch.specs.KeyHistory.{KeyEntry, Shown, Took, Flushed, Cleared, next_change, counts_of, can_press};
@@ -46,6 +46,7 @@ impl Model for KeyLatch {
 
 impl KeyLatch {
     ghost use Rattle.input_latch.specs.KeyLatchStands.{KeyLatchStands};
+    ghost use Rattle.input_latch.specs.PassedKeys.{usage_of};
     ghost use Rattle.input_latch.specs.KeySteps.{key_state, step_of, steps_of};
     ghost use Rattle.input_latch.specs.declared.key_class.KeyClass.TheVariants.{Ordinary, Modifier};
     ghost use Rattle.input_latch.specs.declared.key_latch.KeyChange.TheVariants.{Press, Release};
@@ -93,6 +94,9 @@ impl KeyLatch {
         ensures stands { (past : List KeyEntry) → KeyLatchStands self.old past
             → KeyLatchStands self.new (Took result ∷ past) }
         ensures answer { (past : List KeyEntry) → KeyLatchStands self.old past → result ≡ next_change past }
+
+        // Only keys that are passed on come out of the latch.
+        ensures key { IfSome result (λ change. IsTrue (is_passed_on (usage_of change))) }
     {
         self.waiting.pop_front()
     }
@@ -147,9 +151,9 @@ impl KeyLatch {
 
     /// Offers the release of one key.
     fn release(&mut self, usage: u8, offered: &mut Offered)
-        requires { offered.old.taken + offered.old.refused + 1 < 2 ^ 16 }
-        ensures step { key_state self.new offered.new
-            ≡ step_of (key_state self.old offered.old) (Release usage) }
+        requires passed_on { IsTrue (is_passed_on usage) }
+        requires room { offered.old.taken + offered.old.refused + 1 < 2 ^ 16 }
+        ensures step { key_state self.new offered.new ≡ step_of (key_state self.old offered.old) (Release usage) }
         ensures one { offered.new.taken + offered.new.refused ≤ offered.old.taken + offered.old.refused + 1 }
     {
         if !self.held.has(usage) {

@@ -1,0 +1,5 @@
+pub mod KeyboardHistory
+pub mod KeyboardStands
+pub mod KeyboardSteps
+pub mod LatchCalls
+pub mod Report

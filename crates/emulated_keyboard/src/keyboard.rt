@@ -1,0 +1,251 @@
+//! The emulated keyboard: what each poll of its endpoint is answered (HID 1.11, 7.2.4; USB 2.0, 8.5.4).
+ghost use Rattle.std.specs.Prelude.{◌≡◌, ℕ, Bool, true, false, List, [], ◌∷◌, IsTrue, ◌&&◌, not};
+ghost use Rattle.psd_base.specs.KeySet.{is_passed_on, has_no_key};
+ghost use Rattle.input_latch.specs.KeyHistory.{KeyEntry, next_change, held_with};
+ghost use Rattle.input_latch.specs.KeyLatchStands.{KeyLatchStands};
+ghost use Rattle.emulated_keyboard.specs.KeyboardHistory.{KeyboardEntry, Entered, Parted, Reset, Configured, Restarted, Polled, PolledApart, given_at, given_apart, last_made, toggle_of, answer_of};
+ghost use Rattle.input_latch.specs.PassedKeys.{usage_of};
+ghost use Rattle.emulated_keyboard.specs.LatchCalls.{latch_after};
+ghost use Rattle.emulated_keyboard.specs.Report.{key_report};
+
+use crate::given::Given;
+use crate::report::report_of;
+use input_latch::{KeyChange, KeyLatch};
+use psd_base::event::Tick;
+use psd_base::{Answer, KeySet};
+use std::marker::Model;
+
+/// The idle rate after a bus reset, in units of 4 milliseconds (HID 1.11, 7.2.4).
+pub const IDLE_RATE: u8 = 125;
+
+/// An emulated keyboard. It is entered while its port is selected.
+#[derive(Drop)]
+pub struct Keyboard {
+    /// The keys of the report that was made last.
+    last: KeySet,
+    /// Whether that report isn't acknowledged.
+    open: bool,
+    /// Whether the port was left since that report was made.
+    left: bool,
+    /// The toggle of the next report: true is DATA1.
+    toggle: bool,
+    idle_rate: u8,
+    idle_since: Tick,
+    entered: bool,
+}
+
+impl Model for Keyboard {
+    ghost use Rattle.emulated_keyboard.specs.KeyboardStands.{KeyboardValue};
+
+    ghost Value = { KeyboardValue };
+
+    ghost view = { λ keyboard. record {
+      last = keyboard.last;
+      open_report = keyboard.open;
+      left = keyboard.left;
+      toggle = keyboard.toggle;
+      idle_rate = keyboard.idle_rate;
+      idle_since = keyboard.idle_since;
+      entered = keyboard.entered;
+    } };
+}
+
+impl Keyboard {
+    ghost use Rattle.emulated_keyboard.specs.KeyboardStands.{KeyboardStands};
+    ghost use Rattle.emulated_keyboard.specs.KeyboardSteps.{IsPassedOn, case_of, case_apart, is_time, given_step, sent_step, made_keys};
+
+    /// A keyboard that isn't entered, with nothing pressed.
+    pub fn new() -> Keyboard
+        ensures { KeyboardStands result [] }
+    {
+        Keyboard {
+            last: KeySet::new(),
+            open: false,
+            left: false,
+            toggle: false,
+            idle_rate: IDLE_RATE,
+            idle_since: 0,
+            entered: false,
+        }
+    }
+
+    /// The port is selected at this tick.
+    pub fn enter(&mut self, tick: Tick)
+        requires { self.old.entered ≡ false }
+        ensures { (past : List KeyboardEntry) → KeyboardStands self.old past
+            → KeyboardStands self.new (Entered tick ∷ past) }
+    {
+        self.entered = true;
+        self.idle_since = tick;
+    }
+
+    /// The port is left. A release is due where the report that was made last has something pressed.
+    pub fn part(&mut self)
+        requires { self.old.entered ≡ true }
+        ensures { (past : List KeyboardEntry) → KeyboardStands self.old past → KeyboardStands self.new (Parted ∷ past) }
+    {
+        self.entered = false;
+        self.left = true;
+    }
+
+    /// The bus was reset at this tick: the report that wasn't acknowledged and a release that is due are dropped.
+    pub fn reset(&mut self, tick: Tick)
+        ensures { (past : List KeyboardEntry) → KeyboardStands self.old past
+            → KeyboardStands self.new (Reset tick ∷ past) }
+    {
+        self.configured();
+        self.idle_rate = IDLE_RATE;
+        self.idle_since = tick;
+    }
+
+    /// SET_CONFIGURATION was completed (USB 2.0, 9.4.7), which drops the same and restarts the toggle.
+    pub fn configured(&mut self)
+        ensures { (past : List KeyboardEntry) → KeyboardStands self.old past
+            → KeyboardStands self.new (Configured ∷ past) }
+    {
+        self.last = KeySet::new();
+        self.open = false;
+        self.toggle = false;
+    }
+
+    /// The toggle is DATA0 again.
+    pub fn restart(&mut self)
+        ensures { (past : List KeyboardEntry) → KeyboardStands self.old past
+            → KeyboardStands self.new (Restarted ∷ past) }
+    {
+        self.toggle = false;
+    }
+
+    /// Takes a poll at this tick while the port is selected, whose answer the host acknowledges or not. The first of
+    /// these that applies is answered: the report that wasn't acknowledged, with the toggle of this moment; the report
+    /// with nothing pressed, where a release is due; the report after the latch's next change; the last report again,
+    /// where the idle rate says so; NAK.
+    pub fn poll(&mut self, tick: Tick, acked: bool, latch: &mut KeyLatch) -> Answer
+        requires { self.old.entered ≡ true }
+        ensures stands { (past : List KeyboardEntry) (keys : List KeyEntry) → KeyboardStands self.old past
+            → KeyLatchStands latch.old keys
+            → KeyboardStands self.new (Polled tick (given_at (next_change keys) tick past) acked ∷ past) }
+        ensures answer { (past : List KeyboardEntry) (keys : List KeyEntry) → KeyboardStands self.old past
+            → KeyLatchStands latch.old keys
+            → result ≡ answer_of (given_at (next_change keys) tick past) (toggle_of past)
+            (last_made (Polled tick (given_at (next_change keys) tick past) acked ∷ past)) }
+        ensures latch { (past : List KeyboardEntry) (keys : List KeyEntry) → KeyboardStands self.old past
+            → KeyLatchStands latch.old keys
+            → KeyLatchStands latch.new (latch_after (given_at (next_change keys) tick past) keys) }
+    {
+        let given = self.case_at(tick, latch);
+        self.give(given, acked, tick)
+    }
+
+    /// Takes a poll while the port isn't selected: the report that wasn't acknowledged, the release that is due, or NAK.
+    pub fn poll_apart(&mut self, acked: bool) -> Answer
+        requires { self.old.entered ≡ false }
+        ensures stands { (past : List KeyboardEntry) → KeyboardStands self.old past
+            → KeyboardStands self.new (PolledApart (given_apart past) acked ∷ past) }
+        ensures answer { (past : List KeyboardEntry) → KeyboardStands self.old past
+            → result ≡ answer_of (given_apart past) (toggle_of past)
+            (last_made (PolledApart (given_apart past) acked ∷ past)) }
+    {
+        let given = self.case_apart();
+        let since = self.idle_since;
+        self.give(given, acked, since)
+    }
+
+    /// The case of a poll while the port is selected. A change that it names is taken from the latch.
+    fn case_at(&self, tick: Tick, latch: &mut KeyLatch) -> Given
+        ensures case { (keys : List KeyEntry) → KeyLatchStands latch.old keys
+            → result ≡ case_of self.now tick (next_change keys) }
+        ensures latch { (keys : List KeyEntry) → KeyLatchStands latch.old keys
+            → KeyLatchStands latch.new (latch_after result keys) }
+        ensures key { IsPassedOn result }
+    {
+        if self.open {
+            return Given::Again;
+        }
+        if self.is_due() {
+            return Given::Due;
+        }
+        match latch.take() {
+            Some(change) => Given::Next(change),
+            None => {
+                if self.is_idle(tick) {
+                    Given::Repeated
+                } else {
+                    Given::Nothing
+                }
+            }
+        }
+    }
+
+    /// The case of a poll while the port isn't selected.
+    fn case_apart(&self) -> Given
+        ensures { result ≡ case_apart self.now }
+    {
+        if self.open {
+            Given::Again
+        } else if self.is_due() {
+            Given::Due
+        } else {
+            Given::Nothing
+        }
+    }
+
+    /// Whether a release is due: the port was left since a report with something pressed was made.
+    fn is_due(&self) -> bool
+        ensures { result ≡ (self.now.left && not (has_no_key self.now.last)) }
+    {
+        self.left && !self.last.is_empty()
+    }
+
+    /// Whether it is time to send the last report again.
+    fn is_idle(&self, tick: Tick) -> bool
+        ensures { result ≡ is_time self.now.idle_rate self.now.idle_since tick }
+    {
+        self.idle_rate > 0 && self.idle_since as u64 + 4 * self.idle_rate as u64 <= tick as u64
+    }
+
+    /// Answers a poll by its case. Once the report is acknowledged, the idle time counts from this tick.
+    fn give(&mut self, given: Given, acked: bool, tick: Tick) -> Answer
+        requires { IsPassedOn given }
+        ensures step { self.new ≡ given_step given acked tick self.old }
+        ensures answer { result ≡ answer_of given self.old.toggle (made_keys given self.old.last) }
+    {
+        match given {
+            Given::Again => {}
+            Given::Due => self.last = KeySet::new(),
+            Given::Next(change) => show(&mut self.last, change),
+            Given::Repeated => {}
+            Given::Nothing => return Answer::Nak,
+        }
+        self.left = self.left && given.is_again();
+        self.send(acked, tick)
+    }
+
+    /// Sends the report that was made last.
+    fn send(&mut self, acked: bool, tick: Tick) -> Answer
+        ensures step { self.new ≡ sent_step acked tick self.old }
+        ensures answer { result ≡ Answer.Data self.old.toggle (key_report self.old.last) }
+    {
+        let answer = Answer::Data {
+            toggle: self.toggle,
+            bytes: report_of(&self.last),
+        };
+        self.open = !acked;
+        if acked {
+            self.toggle = !self.toggle;
+            self.idle_since = tick;
+        }
+        answer
+    }
+}
+
+/// Shows a change in a set of keys.
+fn show(keys: &mut KeySet, change: KeyChange)
+    requires { IsTrue (is_passed_on (usage_of change)) }
+    ensures { keys.new ≡ held_with keys.old change }
+{
+    match change {
+        KeyChange::Press(usage) => keys.add(usage),
+        KeyChange::Release(usage) => keys.remove(usage),
+    }
+}
