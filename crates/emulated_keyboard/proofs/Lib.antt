@@ -1,3 +1,4 @@
+pub mod DeliveryLaws
 mod Examples
 pub mod KeyboardLaws
 pub mod ReportLaws

@@ -1,3 +1,4 @@
+pub mod Delivery
 pub mod KeyboardHistory
 pub mod KeyboardStands
 pub mod KeyboardSteps

@@ -1,6 +1,7 @@
 //! What a computer finds at its keyboard: an emulated one, exact in every report and toggle, whoever is selected.
 #![tactic(auto)]
 
+pub mod delivery;
 pub mod given;
 pub mod keyboard;
 mod report;
