@@ -3,7 +3,7 @@ ghost use Rattle.std.specs.Prelude.{◌≡◌, ℕ, Bool, true, false, List, [],
 ghost use Rattle.psd_base.specs.KeySet.{is_passed_on, has_no_key};
 ghost use Rattle.input_latch.specs.KeyHistory.{KeyEntry, next_change, held_with};
 ghost use Rattle.input_latch.specs.KeyLatchStands.{KeyLatchStands};
-ghost use Rattle.emulated_keyboard.specs.KeyboardHistory.{KeyboardEntry, Entered, Parted, Reset, Configured, Restarted, Polled, PolledApart, given_at, given_apart, last_made, toggle_of, answer_of};
+ghost use Rattle.emulated_keyboard.specs.KeyboardHistory.{KeyboardEntry, Entered, Parted, Reset, Configured, Restarted, IdleSet, Polled, PolledApart, idle_rate, given_at, given_apart, last_made, toggle_of, answer_of};
 ghost use Rattle.input_latch.specs.PassedKeys.{usage_of};
 ghost use Rattle.emulated_keyboard.specs.LatchCalls.{latch_after};
 ghost use Rattle.emulated_keyboard.specs.Report.{key_report};
@@ -12,7 +12,7 @@ use crate::given::Given;
 use crate::report::report_of;
 use input_latch::{KeyChange, KeyLatch};
 use psd_base::event::Tick;
-use psd_base::{Answer, KeySet};
+use psd_base::{Answer, KeySet, Packet};
 use std::marker::Model;
 
 /// The idle rate after a bus reset, in units of 4 milliseconds (HID 1.11, 7.2.4).
@@ -114,6 +114,30 @@ impl Keyboard {
             → KeyboardStands self.new (Restarted ∷ past) }
     {
         self.toggle = false;
+    }
+
+    /// SET_IDLE was completed at this tick (HID 1.11, 7.2.4): the rate is in units of 4 milliseconds, and 0 is never.
+    pub fn set_idle(&mut self, tick: Tick, rate: u8)
+        ensures { (past : List KeyboardEntry) → KeyboardStands self.old past
+            → KeyboardStands self.new (IdleSet tick rate ∷ past) }
+    {
+        self.idle_rate = rate;
+        self.idle_since = tick;
+    }
+
+    /// The idle rate, in units of 4 milliseconds.
+    pub fn idle(&self) -> u8
+        ensures { (past : List KeyboardEntry) → KeyboardStands self.now past → result ≡ idle_rate past }
+    {
+        self.idle_rate
+    }
+
+    /// The report that was made last, or the one with nothing pressed where none was made since the last bus reset or
+    /// configuration. Asking for it (HID 1.11, 7.2.1) takes nothing from a latch.
+    pub fn report(&self) -> Packet
+        ensures { (past : List KeyboardEntry) → KeyboardStands self.now past → result ≡ key_report (last_made past) }
+    {
+        report_of(&self.last)
     }
 
     /// Takes a poll at this tick while the port is selected, whose answer the host acknowledges or not. The first of
