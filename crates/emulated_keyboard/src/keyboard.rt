@@ -82,7 +82,8 @@ impl Keyboard {
     /// The port is left. A release is due where the report that was made last has something pressed.
     pub fn part(&mut self)
         requires { self.old.entered ≡ true }
-        ensures { (past : List KeyboardEntry) → KeyboardStands self.old past → KeyboardStands self.new (Parted ∷ past) }
+        ensures { (past : List KeyboardEntry) → KeyboardStands self.old past
+            → KeyboardStands self.new (Parted ∷ past) }
     {
         self.entered = false;
         self.left = true;
@@ -135,7 +136,8 @@ impl Keyboard {
     /// The report that was made last, or the one with nothing pressed where none was made since the last bus reset or
     /// configuration. Asking for it (HID 1.11, 7.2.1) takes nothing from a latch.
     pub fn report(&self) -> Packet
-        ensures { (past : List KeyboardEntry) → KeyboardStands self.now past → result ≡ key_report (last_made past) }
+        ensures { (past : List KeyboardEntry) → KeyboardStands self.now past
+            → result ≡ key_report (last_made past) }
     {
         report_of(&self.last)
     }

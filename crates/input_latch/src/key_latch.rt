@@ -153,7 +153,8 @@ impl KeyLatch {
     fn release(&mut self, usage: u8, offered: &mut Offered)
         requires passed_on { IsTrue (is_passed_on usage) }
         requires room { offered.old.taken + offered.old.refused + 1 < 2 ^ 16 }
-        ensures step { key_state self.new offered.new ≡ step_of (key_state self.old offered.old) (Release usage) }
+        ensures step { key_state self.new offered.new
+            ≡ step_of (key_state self.old offered.old) (Release usage) }
         ensures one { offered.new.taken + offered.new.refused ≤ offered.old.taken + offered.old.refused + 1 }
     {
         if !self.held.has(usage) {
