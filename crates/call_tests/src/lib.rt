@@ -6,6 +6,8 @@ mod configurations;
 #[cfg(test)]
 mod control_transfers;
 #[cfg(test)]
+mod desks;
+#[cfg(test)]
 mod enumerations;
 #[cfg(test)]
 mod hexadecimal;

@@ -117,18 +117,3 @@ impl<R: Files + Print + Eprint + AllocGlobal + Drop> Desk for FileDesk<R> {
         }
     }
 }
-
-#[cfg(test)]
-mod tests {
-    use super::*;
-
-    #[test]
-    fn only_the_capture_must_be_there(rt: HostRuntime) {
-        let mut desk = FileDesk::new(&rt);
-        let mut into = [0; 4];
-        assert_eq!(rt; desk.read(Input::Rules, &mut into), Ok(0));
-        assert_eq!(rt; desk.read(Input::Capture, &mut into), Err(DeskFailed));
-        assert_eq!(rt; desk.read(Input::Script, &mut into), Ok(0));
-        assert_eq!(rt; desk.close(), Ok(()));
-    }
-}
