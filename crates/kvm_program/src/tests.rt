@@ -68,8 +68,8 @@ fn one_descriptor_is_read(rt: HostRuntime) -> Result<(), Fail> {
 
 /// What a command that came to its end answers. With ample memory there is no want of it: a body that always answers it
 /// meets each clause, so these runs alone refuse it.
-fn done(result: Result<Summary, Stop>) -> Result<Summary, Fail> {
-    match result {
+fn done(ended: Result<Summary, Stop>) -> Result<Summary, Fail> {
+    match ended {
         Ok(summary) => Ok(summary),
         Err(_) => Err(Fail::from("it stopped")),
     }
