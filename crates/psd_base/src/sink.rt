@@ -157,7 +157,7 @@ impl<F: Write + Drop> Sink<F> {
 
     /// Writes out what waits. An outlet that failed earlier is passed over.
     pub fn write_out<R: Print + Eprint>(&mut self, rt: &R) -> io::Result<()>
-        ensures waiting { IsOpen self.old → waiting_in self.new ≡ [] }
+        ensures waiting { waiting_in self.new ≡ [] }
         ensures failed { OnErr result (self.new ≡ Sink.Failed) }
         ensures unused { IsFresh self.old → (result ≡ Ok tt) × (self.new ≡ self.old) }
         ensures passed_over { self.old ≡ Sink.Failed → result ≡ Ok tt }
