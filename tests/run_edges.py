@@ -1,29 +1,36 @@
 #!/usr/bin/env python3
-"""Runs the program at its edges: with standard streams closed, and with too little memory.
+"""Runs the program at its edges: with standard streams closed, with too little memory, and where the system decides.
 
     run_edges.py PROGRAM
 
 With each combination of standard streams closed, the program replays a session that succeeds and one that stops. No file
 may hold a byte that belongs to a stream, and the status tells what couldn't be written. With memory in steps, a replay
 ends with status 0 and the whole of what it writes, or with 8, the line `out of memory` and no file touched, wherever there
-was enough to begin at all.
+was enough to begin at all. Links, FIFOs, folders, full disks, limits of files and signals do what docs/FORMATS.md says of them.
 The last line is 'N passed, N failed'.
 """
+import contextlib
 import itertools
 import os
 import pathlib
 import resource
 import shutil
+import signal
 import subprocess
 import sys
 import tempfile
+import time
 
 TOP = pathlib.Path(__file__).resolve().parent.parent
 SESSION = TOP / "tests" / "sessions" / "device-descriptor"
 STREAMS = {0: "standard input", 1: "standard output", 2: "standard error"}
-WRITE_FAULT, OUT_OF_MEMORY, NOT_LOADED = 7, 8, 127
+READ_FAULT, WRITE_FAULT, OUT_OF_MEMORY, NOT_LOADED = 6, 7, 8, 127
 SECONDS = 60
 KIBIBYTE = 1024
+#: Fewer bytes than the transcript of port 1 has, and more than the log.
+SHORT = 50
+#: How long a run that waits for a FIFO is watched, in seconds.
+WATCHED = 0.5
 STEP, MOST = 64 * KIBIBYTE, 64 * 1024 * KIBIBYTE
 
 
@@ -110,6 +117,120 @@ def check_memory(program):
         raise Wrong(f"{stopped} runs stopped for want of memory, and {ended} came to their end")
 
 
+def replay_in(program, folder, before=None, restore_signals=True):
+    """A replay in a folder whose inputs are there already: its status, its report and its fault lines."""
+    done = subprocess.run([program, "replay"], cwd=folder, stdin=subprocess.DEVNULL, capture_output=True, timeout=SECONDS,
+                          preexec_fn=before, restore_signals=restore_signals)
+    return done.returncode, done.stdout, done.stderr
+
+
+def same(what, given, wanted):
+    if given != wanted:
+        raise Wrong(f"{what} is {given!r}, not {wanted!r}")
+
+
+def lay_inputs(folder):
+    for file in inputs():
+        shutil.copy(file, folder)
+
+
+def check_file_limit(program, folder):
+    """Above the limit of a file the signal SIGXFSZ ends the run; where it is ignored, that is a write fault."""
+
+    def before():
+        resource.setrlimit(resource.RLIMIT_FSIZE, (SHORT, SHORT))
+
+    part = outlets()["port1.txt"][:SHORT]
+    same("the end by the signal", replay_in(program, folder, before), (-signal.SIGXFSZ, b"", b""))
+    same("the transcript", (folder / "port1.txt").read_bytes(), part)
+    same("the end without it", replay_in(program, folder, before, False), (WRITE_FAULT, b"", b"write fault port 1\n"))
+    same("the transcript then", (folder / "port1.txt").read_bytes(), part)
+
+
+def check_links(program, folder):
+    """Links are followed, by inputs and by outlets; what an outlet's link leads to is made anew."""
+    (folder / "capture.kvc").rename(folder / "kept.kvc")
+    (folder / "capture.kvc").symlink_to("kept.kvc")
+    (folder / "elsewhere").write_bytes(b"what stood there before\n" * 100)
+    (folder / "port1.txt").symlink_to("elsewhere")
+    same("the run", replay_in(program, folder), (0, expected("report"), b""))
+    same("the link stays", (folder / "port1.txt").is_symlink(), True)
+    same("what it leads to", (folder / "elsewhere").read_bytes(), outlets()["port1.txt"])
+
+
+def check_full_disk(program, folder):
+    """What the disk has no room for is a write fault."""
+    (folder / "rules.log").symlink_to("/dev/full")
+    same("the run", replay_in(program, folder), (WRITE_FAULT, b"", b"write fault log\n"))
+
+
+def check_folders(program, folder):
+    """A folder in the place of an input is a read fault, in that of an outlet a write fault."""
+    (folder / "port1.txt").mkdir()
+    same("port1.txt as a folder", replay_in(program, folder), (WRITE_FAULT, b"", b"write fault port 1\n"))
+    for name, told in (("capture.kvc", b"capture"), ("buttons.txt", b"script"), ("rules.toml", b"rules")):
+        (folder / name).unlink(missing_ok=True)
+        (folder / name).mkdir()
+        same(f"{name} as a folder", replay_in(program, folder), (READ_FAULT, b"", b"read fault " + told + b"\n"))
+        (folder / name).rmdir()
+        lay_inputs(folder)
+
+
+ENDING = (signal.SIGINT, signal.SIGTERM, signal.SIGHUP)
+
+
+@contextlib.contextmanager
+def waiting_run(program, folder):
+    """A run that waits for its capture, which is a FIFO."""
+
+    def before():
+        for number in ENDING:
+            signal.signal(number, signal.SIG_DFL)  # whoever runs the tests may have had it ignored
+
+    (folder / "capture.kvc").unlink()
+    os.mkfifo(folder / "capture.kvc")
+    begun = subprocess.Popen([program, "replay"], cwd=folder, stdin=subprocess.DEVNULL, stdout=subprocess.PIPE,
+                             stderr=subprocess.PIPE, preexec_fn=before)
+    try:
+        time.sleep(WATCHED)
+        same("the end of a run that has to wait", begun.poll(), None)
+        yield begun
+    finally:
+        begun.kill()
+        begun.communicate()
+
+
+def check_fifo(program, folder):
+    """A FIFO is waited for, and then read like a file."""
+    with waiting_run(program, folder) as begun:
+        (folder / "capture.kvc").write_bytes((SESSION / "capture.kvc").read_bytes())
+        report, faults = begun.communicate(timeout=SECONDS)
+    same("the run", (begun.returncode, report, faults), (0, expected("report"), b""))
+    same("what it writes", written(folder), outlets())
+
+
+def check_signals(program, folder):
+    """A signal ends a run where it is: without a fault line, and with the system's own status."""
+    for number in ENDING:
+        with waiting_run(program, folder) as begun:
+            begun.send_signal(number)
+            report, faults = begun.communicate(timeout=SECONDS)
+        same(f"the run that got {number.name}", (begun.returncode, report, faults), (-number, b"", b""))
+        same("what it writes", written(folder), {})
+
+
+#: What the system decides, each case in a folder with the session's inputs.
+DECIDED = {"a limit of files": check_file_limit, "links": check_links, "a full disk": check_full_disk, "folders": check_folders,
+           "a FIFO": check_fifo, "signals": check_signals}
+
+
+def check_decided(program, check):
+    with tempfile.TemporaryDirectory(prefix="edge-") as name:
+        folder = pathlib.Path(name)
+        lay_inputs(folder)
+        check(program, folder)
+
+
 def main():
     if len(sys.argv) != 2:
         sys.exit(__doc__)
@@ -117,6 +238,7 @@ def main():
     combinations = [c for n in (1, 2, 3) for c in itertools.combinations(STREAMS, n)]
     cases = [(" and ".join(STREAMS[it] for it in c) + " closed", lambda c=c: check_closed(program, c)) for c in combinations]
     cases.append(("memory in steps", lambda: check_memory(program)))
+    cases += [(name, lambda check=check: check_decided(program, check)) for name, check in DECIDED.items()]
     passed = 0
     for name, case in cases:
         try:

@@ -112,7 +112,8 @@ fn is_key(usage: u8) -> bool
     (0x04 <= usage && usage <= 0xa4) || (0xe0 <= usage && usage <= 0xe7)
 }
 
-fn keys_of(word: &str) -> Result<KeySet, Fail> {
+/// The set of these keys, or of none where the word is `up`.
+pub(crate) fn keys_of(word: &str) -> Result<KeySet, Fail> {
     let mut keys = KeySet::new();
     if word == "up" {
         return Ok(keys);
@@ -127,7 +128,7 @@ fn keys_of(word: &str) -> Result<KeySet, Fail> {
     Ok(keys)
 }
 
-fn sample_of(word: &str) -> Result<Sample, Fail> {
+pub(crate) fn sample_of(word: &str) -> Result<Sample, Fail> {
     let (buttons, motion) = word.split_once(':').ok_or("no buttons")?;
     let (x, motion) = motion.split_once(',').ok_or("no y")?;
     let (y, wheel) = motion.split_once(',').ok_or("no wheel")?;
@@ -181,7 +182,7 @@ fn tap_buttons(latch: &mut PointerLatch, times: u8) -> Result<u16, Fail> {
     Ok(taken)
 }
 
-fn show(latch: &mut PointerLatch, sample: Sample) -> Result<Offered, Fail> {
+pub(crate) fn show(latch: &mut PointerLatch, sample: Sample) -> Result<Offered, Fail> {
     let least = -2_147_483_647;
     if sample.buttons < 32 && sample.x >= least && sample.y >= least && sample.wheel >= least {
         Ok(latch.sample(&sample))

@@ -2,6 +2,8 @@
 #![tactic(auto)]
 
 #[cfg(test)]
+mod captures;
+#[cfg(test)]
 mod configurations;
 #[cfg(test)]
 mod control_transfers;
@@ -12,7 +14,11 @@ mod enumerations;
 #[cfg(test)]
 mod hexadecimal;
 #[cfg(test)]
+mod keyboards;
+#[cfg(test)]
 mod latches;
+#[cfg(test)]
+mod mice;
 #[cfg(test)]
 mod report_descriptors;
 #[cfg(test)]

@@ -26,3 +26,9 @@ still_after_read bytes items held count before None kept moved ended = rw moved 
 still_after_read bytes items held count before (Some rest) kept moved ended =
     let at_end : count ≡ 0 → slice_range items held (held + count) ++ rest ≡ [] = λ empty. let P : Option (List ℕ) → Type 0 = λ left. IfSome left (λ xs. xs ≡ []) in subst P moved (ended empty) in
     rw moved (ap Some (coming_after_read bytes items rest held count (nat_eq count 0) refl kept at_end))
+
+-- what was held, and what was read behind it
+pub all_read : (items bytes : List ℕ) (held count : ℕ) → take held items ≡ bytes → slice_range items 0 (held + count) ≡ bytes ++ slice_range items held (held + count)
+all_read items bytes held count kept =
+    let size : (held + count) - 0 ≡ held + count = omega arith in
+    ap (λ n. take n items) size ∙ take_in_two items held count ∙ ap (λ xs. xs ++ slice_range items held (held + count)) kept

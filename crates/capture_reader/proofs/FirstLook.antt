@@ -6,12 +6,13 @@ use Rattle.psd_base.specs.declared.outlet.Input.TheVariants as inputs
 use Rattle.psd_base.specs.declared.stop.Stop.{Stop}
 use Rattle.psd_base.specs.declared.stop.Stop.TheVariants as stops
 use Rattle.psd_base.specs.Desk.{Rose, Told}
-use Rattle.psd_base.specs.Event.{Seen, seen}
+use Rattle.psd_base.specs.Event.{Seen}
 use Rattle.capture_reader.specs.declared.next.Next.TheVariants as nexts
 use Rattle.capture_reader.specs.declared.progress.State.TheVariants.{Waiting}
 use Rattle.capture_reader.specs.declared.script.ScriptSource.{ScriptSource}
 use Rattle.capture_reader.specs.declared.source.CaptureSource.{CaptureSource}
 use Rattle.capture_reader.specs.Capture.{header, records}
+use Rattle.capture_reader.specs.Ahead.{ahead_of, line_of}
 use Rattle.capture_reader.specs.Schedule.{Schedule, in_front, over}
 use Rattle.capture_reader.specs.Lines.{later_lines, lines_with_ahead, LinesEnd, LineLookFailed}
 use Rattle.capture_reader.specs.Merge.{merge, cut, cut_to, both, merged, schedule, schedule_told, port_count}
@@ -20,22 +21,22 @@ use Rattle.capture_reader.specs.Reader.{records_to_come, lines_to_come, upcoming
 use Rattle.capture_reader.specs.Script.{lines, script}
 use Rattle.capture_reader.specs.Source.{later, after_ahead, Ends, LookFailed, OpenFailed}
 use Rattle.capture_reader.specs.Window.{Held, coming, still}
-use Rattle.capture_reader.proofs.Ahead.{later_ends}
-use Rattle.capture_reader.proofs.Merging.{record_step, line_step, end_step, capture_over, script_over, cut_over, none_weaker, none_seen, of_some}
+use Rattle.capture_reader.proofs.Looks.{later_ends}
+use Rattle.capture_reader.proofs.Merging.{record_step, line_step, end_step, capture_over, script_over, cut_over, none_weaker, of_some}
 use Rattle.capture_reader.proofs.Upcoming.{rest_is, shows_end}
 
 -- behind the first looks what is to come is what was to come before
 pub rest_first : (capture : CaptureSource) (source : ScriptSource) (limit : ℕ) (before : Option Schedule) (capture_left script_left : Option (List ℕ)) → source.ports ≡ capture.ports
-    → before ≡ option_map (after_ahead (option_map seen capture.ahead)) (later capture.ports capture.tick capture.offset capture.window capture_left)
+    → before ≡ option_map (after_ahead (ahead_of capture.ahead)) (later capture.ports capture.tick capture.offset capture.window capture_left)
     → rest (reading (record { capture = capture; script = source; limit = limit; served = 0; tick = 0; state = Waiting })) capture_left script_left
     ≡ merged limit before (lines_with_ahead source script_left)
 rest_first capture source limit before capture_left script_left ports read =
     let whole : limit - 0 ≡ limit = omega arith in
     rest_is (reading (record { capture = capture; script = source; limit = limit; served = 0; tick = 0; state = Waiting })) capture_left script_left
-    ∙ ap (λ n. merged n (option_map (after_ahead (option_map seen capture.ahead)) (later capture.ports capture.tick capture.offset capture.window capture_left))
-    (option_map (after_ahead (option_map seen source.ahead)) (later_lines capture.ports source.tick source.line source.window script_left))) whole
-    ∙ ap (λ records. merged limit records (option_map (after_ahead (option_map seen source.ahead)) (later_lines capture.ports source.tick source.line source.window script_left))) (sym read)
-    ∙ ap (λ n. merged limit before (option_map (after_ahead (option_map seen source.ahead)) (later_lines n source.tick source.line source.window script_left))) (sym ports)
+    ∙ ap (λ n. merged n (option_map (after_ahead (ahead_of capture.ahead)) (later capture.ports capture.tick capture.offset capture.window capture_left))
+    (option_map (after_ahead (line_of source.ahead)) (later_lines capture.ports source.tick source.line source.window script_left))) whole
+    ∙ ap (λ records. merged limit records (option_map (after_ahead (line_of source.ahead)) (later_lines capture.ports source.tick source.line source.window script_left))) (sym read)
+    ∙ ap (λ n. merged limit before (option_map (after_ahead (line_of source.ahead)) (later_lines n source.tick source.line source.window script_left))) (sym ports)
 
 over_stops : (one other : Option Stop) → Some (over one) ≡ Some (over other) → one ≡ other
 over_stops one other same = ap (λ (schedule : Schedule). schedule.stop) (same_Some (over one) (over other) same)
@@ -48,7 +49,7 @@ cut_no_fault (suc limit) event recording stop other same =
 
 -- behind looks that found no fault none comes at once
 no_fault : (capture : CaptureSource) (source : ScriptSource) (limit : ℕ) (capture_left script_left : Option (List ℕ))
-    → IfNone capture.ahead (Ends capture.ports capture.tick capture.offset capture.window None) → IfNone source.ahead (LinesEnd capture.ports source.tick source.line source.window None)
+    → IfNone (ahead_of capture.ahead) (Ends capture.ports capture.tick capture.offset capture.window None) → IfNone (line_of source.ahead) (LinesEnd capture.ports source.tick source.line source.window None)
     → (stop : Stop) → stop ≢ stops.TooLong
     → rest (reading (record { capture = capture; script = source; limit = limit; served = 0; tick = 0; state = Waiting })) capture_left script_left ≢ Some (over (Some stop))
 unfolding rest upcoming records_to_come lines_to_come
@@ -57,21 +58,21 @@ no_fault capture source limit (Some capture_left) None records_end lines_end sto
 no_fault capture source limit (Some capture_left) (Some script_left) records_end lines_end stop other same =
     let told : Schedule = records capture.ports capture.tick capture.offset 0 (coming capture.window capture_left) in
     let said : Schedule = lines capture.ports source.tick source.line 0 (coming source.window script_left) in
-    let over_at_once : cut_to (limit - 0) (merge (after_ahead (option_map seen source.ahead) said) (after_ahead (option_map seen capture.ahead) told)) ≡ over (Some stop) =
+    let over_at_once : cut_to (limit - 0) (merge (after_ahead (line_of source.ahead) said) (after_ahead (ahead_of capture.ahead) told)) ≡ over (Some stop) =
     same_Some _ _ same in
-    elim (next_of capture.ahead source.ahead) as (λ n. next_of capture.ahead source.ahead ≡ n → ⊥) [
-      | nexts.Record ↦ λ next. of_some (option_map seen capture.ahead) (λ event step. cut_no_fault (limit - 0) event _ stop other (sym (ap (cut_to (limit - 0)) step) ∙ over_at_once))
-          (record_step capture.ahead source.ahead told said next (none_weaker source.ahead (λ all. all script_left) lines_end))
-      | nexts.Line ↦ λ next. of_some (option_map seen source.ahead) (λ event step. cut_no_fault (limit - 0) event _ stop other (sym (ap (cut_to (limit - 0)) step) ∙ over_at_once))
-          (line_step capture.ahead source.ahead told said next (none_weaker capture.ahead (λ all. all capture_left) records_end))
+    elim (next_of (ahead_of capture.ahead) (line_of source.ahead)) as (λ n. next_of (ahead_of capture.ahead) (line_of source.ahead) ≡ n → ⊥) [
+      | nexts.Record ↦ λ next. of_some (ahead_of capture.ahead) (λ event step. cut_no_fault (limit - 0) event _ stop other (sym (ap (cut_to (limit - 0)) step) ∙ over_at_once))
+          (record_step (ahead_of capture.ahead) (line_of source.ahead) told said next (none_weaker (line_of source.ahead) (λ all. all script_left) lines_end))
+      | nexts.Line ↦ λ next. of_some (line_of source.ahead) (λ event step. cut_no_fault (limit - 0) event _ stop other (sym (ap (cut_to (limit - 0)) step) ∙ over_at_once))
+          (line_step (ahead_of capture.ahead) (line_of source.ahead) told said next (none_weaker (ahead_of capture.ahead) (λ all. all capture_left) records_end))
       | nexts.End ↦ λ next.
-          let none = end_step capture.ahead source.ahead next in
+          let none = end_step (ahead_of capture.ahead) (line_of source.ahead) next in
           let shown = shows_end capture source limit 0 0 none.0 none.1 (MatchOption-at_none _ _ none.0 records_end) (MatchOption-at_none _ _ none.1 lines_end) capture_left script_left in
           let stopped = over_stops None (Some stop) (ap Some (sym shown ∙ over_at_once)) in cc
     ] refl
 
 pub looked_first : (capture : CaptureSource) (source : ScriptSource) (limit : ℕ) (before : Option Schedule) (capture_left script_left : Option (List ℕ))
-    → IfNone capture.ahead (Ends capture.ports capture.tick capture.offset capture.window None) → IfNone source.ahead (LinesEnd capture.ports source.tick source.line source.window None)
+    → IfNone (ahead_of capture.ahead) (Ends capture.ports capture.tick capture.offset capture.window None) → IfNone (line_of source.ahead) (LinesEnd capture.ports source.tick source.line source.window None)
     → rest (reading (record { capture = capture; script = source; limit = limit; served = 0; tick = 0; state = Waiting })) capture_left script_left ≡ before → IsLooked before
 looked_first capture source limit before capture_left script_left records_end lines_end is = record {
   no_capture_fault = λ offset why same. no_fault capture source limit capture_left script_left records_end lines_end (stops.Capture offset why) (λ equal. cc) (is ∙ same);
@@ -97,16 +98,16 @@ merged_over-script limit (Some told) (Some said) stop ends = cut_over limit _ (S
 
 -- the first look at the capture failed
 pub capture_failed : (capture : CaptureSource) (source : ScriptSource) (limit : ℕ) (before : Option Schedule) (left script_left : Option (List ℕ)) (desk desk_after : Told) (stop : Stop)
-    → later capture.ports capture.tick capture.offset capture.window left ≡ before → IfNone source.ahead (LinesEnd source.ports source.tick source.line source.window None)
+    → later capture.ports capture.tick capture.offset capture.window left ≡ before → IfNone (line_of source.ahead) (LinesEnd source.ports source.tick source.line source.window None)
     → LookFailed capture.ports capture.tick capture.offset capture.window desk desk_after stop
     → NewFailed (merged limit before (lines_with_ahead source script_left)) desk desk_after ⊥ stop
 capture_failed capture source limit before left script_left desk desk_after stops.Usage same lines_end failed = failed
 capture_failed capture source limit before left script_left desk desk_after (stops.Rules why) same lines_end failed = failed
 capture_failed capture source limit before left script_left desk desk_after (stops.Capture offset why) same lines_end failed =
-    merged_over-capture limit before (later_lines source.ports source.tick source.line source.window script_left) (option_map seen source.ahead) (stops.Capture offset why)
+    merged_over-capture limit before (later_lines source.ports source.tick source.line source.window script_left) (line_of source.ahead) (stops.Capture offset why)
     (subst (λ (recording : Option Schedule). IfSome recording (λ r. r ≡ over (Some (stops.Capture offset why)))) same
     (later_ends capture.ports capture.tick capture.offset capture.window (Some (stops.Capture offset why)) left failed))
-    (none_seen _ source.ahead (none_weaker source.ahead (later_lines_end source.ports source.tick source.line source.window None script_left) lines_end))
+    (none_weaker (line_of source.ahead) (later_lines_end source.ports source.tick source.line source.window None script_left) lines_end)
 capture_failed capture source limit before left script_left desk desk_after (stops.Script line why) same lines_end failed = absurd failed
 capture_failed capture source limit before left script_left desk desk_after stops.TooLong same lines_end failed = failed
 capture_failed capture source limit before left script_left desk desk_after (stops.ReadFault inputs.Rules) same lines_end failed = failed

@@ -4,8 +4,8 @@ use Rattle.std.proofs.lemmas.List.{take_all, take-take, take-append-le}
 use Rattle.std.specs.List.{position_or_len}
 use Rattle.capture_reader.specs.Script.{is_line_feed, first_line}
 use Rattle.capture_reader.specs.Window.{FrontLine, HasNoLine}
-use Rattle.capture_reader.proofs.Ahead.{coming_is, coming_ended}
-use Rattle.capture_reader.proofs.Places.{position_found, position_within, position_missing, place_among, place_behind}
+use Rattle.capture_reader.proofs.Looks.{coming_is, coming_ended}
+use Rattle.capture_reader.proofs.Places.{position_found, position_within, found_at, position_missing, place_among, place_behind}
 
 -- what comes, in the first bytes of what is held and what is behind them
 in_two : (bytes more : List ℕ) → bytes ++ more ≡ take 65 bytes ++ (drop 65 bytes ++ more)
@@ -23,6 +23,15 @@ found_in bytes more size is =
     ∙ take_all 65 (take size (bytes ++ more)) (omega (arith, length-take size (bytes ++ more), length-take 65 bytes))
     ∙ take-append-le size bytes more (omega (arith, length-take 65 bytes))
 
+-- the first place among the first bytes is the first of all
+first_place : (bytes : List ℕ) (size : ℕ) → position is_line_feed (take 65 bytes) ≡ Some size → position is_line_feed bytes ≡ Some size
+first_place bytes size is =
+    let within : size < length (take 65 bytes) = position_within is_line_feed (take 65 bytes) size is in
+    let at : position_or_len is_line_feed (take 65 bytes) ≡ size = position_found is_line_feed (take 65 bytes) size is in
+    let place : position_or_len is_line_feed bytes ≡ size =
+    ap (position_or_len is_line_feed) (sym (take-append-drop 65 bytes)) ∙ place_among is_line_feed (take 65 bytes) (drop 65 bytes) (omega arith) ∙ at in
+    found_at is_line_feed bytes size place (omega (arith, length-take 65 bytes))
+
 pub found_line : (bytes : List ℕ) (ended : Bool) (size : ℕ) → position is_line_feed (take 65 bytes) ≡ Some size → FrontLine (record { bytes = bytes; ended = ended }) size
 found_line bytes ended size is =
     let within : size < length (take 65 bytes) = position_within is_line_feed (take 65 bytes) size is in
@@ -31,6 +40,7 @@ found_line bytes ended size is =
       most = omega (arith, length-take 65 bytes);
       line = λ left. let behind = coming_is bytes ended left in ap (λ xs. take 65 (first_line xs)) behind.1 ∙ found_in bytes behind.0 size is;
       last = λ short all. absurd (omega (arith, length-take 65 bytes));
+      feed = λ unmet short. first_place bytes size is;
     }
 
 -- there is none among as many as a line can't have
@@ -56,6 +66,7 @@ long_line bytes ended is long = record {
   most = omega arith;
   line = λ left. let behind = coming_is bytes ended left in ap (λ xs. take 65 (first_line xs)) behind.1 ∙ long_in bytes behind.0 is long;
   last = λ short all. absurd (omega arith);
+  feed = λ unmet short. absurd (omega arith);
 }
 
 pub ended_line : (bytes : List ℕ) (ended : Bool) → position is_line_feed (take 65 bytes) ≡ None → ended ≡ true → length bytes < 65 → FrontLine (record { bytes = bytes; ended = ended }) (length bytes)
@@ -65,6 +76,7 @@ ended_line bytes ended is at_end short = record {
   line = λ left.
       ap (λ xs. take 65 (first_line xs)) (coming_ended (record { bytes = bytes; ended = ended }) left at_end) ∙ ended_in bytes is short ∙ sym (take_all (length bytes) bytes (omega arith));
   last = λ _ _. at_end;
+  feed = λ unmet short. absurd (cc);
 }
 
 pub no_line : (bytes : List ℕ) → position is_line_feed (take 65 bytes) ≡ None → length (take 65 bytes) ≤ 64 → HasNoLine bytes × (length bytes ≤ 64)

@@ -1,9 +1,8 @@
 -- The next event of two sources that are merged.
-use Rattle.std.proofs.Common.{◌≡◌, ℕ, suc, ◌+◌, ◌-◌, ◌<◌, Bool, true, false, nat_le, cond, Option, Some, None, option_map, IfNone, IsSomeAnd, refl, ap, arith}
-use Rattle.psd_base.specs.declared.event.Event.{Event}
+use Rattle.std.proofs.Common.{◌≡◌, ℕ, suc, ◌+◌, ◌-◌, ◌<◌, Bool, true, false, nat_le, cond, Option, Some, None, IfNone, IsSomeAnd, refl, ap, arith}
 use Rattle.psd_base.specs.declared.stop.Stop.{Stop}
 use Rattle.psd_base.specs.declared.stop.Stop.TheVariants.{TooLong}
-use Rattle.psd_base.specs.Event.{Seen, seen}
+use Rattle.psd_base.specs.Event.{Seen}
 use Rattle.capture_reader.specs.declared.next.Next.TheVariants as nexts
 use Rattle.capture_reader.specs.Schedule.{Schedule, in_front, over}
 use Rattle.capture_reader.specs.Merge.{before, merge_lines, merge, cut, cut_to}
@@ -43,27 +42,27 @@ unfolding merge merge_lines before
 line_before event record_event lines records test = rw test refl
 
 -- a record is next
-pub record_step : (record_ahead line_ahead : Option Event) (records lines : Schedule) → next_of record_ahead line_ahead ≡ nexts.Record → IfNone line_ahead (lines ≡ over None)
-    → IsSomeAnd (option_map seen record_ahead) (λ event. merge (after_ahead (option_map seen line_ahead) lines) (after_ahead (option_map seen record_ahead) records)
-    ≡ in_front event (merge (after_ahead (option_map seen line_ahead) lines) records))
+pub record_step : (record_ahead line_ahead : Option Seen) (records lines : Schedule) → next_of record_ahead line_ahead ≡ nexts.Record → IfNone line_ahead (lines ≡ over None)
+    → IsSomeAnd record_ahead (λ event. merge (after_ahead line_ahead lines) (after_ahead record_ahead records)
+    ≡ in_front event (merge (after_ahead line_ahead lines) records))
 record_step None None records lines is ends = cc
 record_step None (Some line_event) records lines is ends = cc
-record_step (Some event) None records lines is ends = record_alone (seen event) lines records ends
+record_step (Some event) None records lines is ends = record_alone event lines records ends
 record_step (Some event) (Some line_event) records lines is ends =
-    record_before (seen event) (seen line_event) lines records (chose_record (nat_le line_event.tick event.tick) is)
+    record_before event line_event lines records (chose_record (nat_le line_event.tick event.tick) is)
 
 -- a line is next
-pub line_step : (record_ahead line_ahead : Option Event) (records lines : Schedule) → next_of record_ahead line_ahead ≡ nexts.Line → IfNone record_ahead (records ≡ over None)
-    → IsSomeAnd (option_map seen line_ahead) (λ event. merge (after_ahead (option_map seen line_ahead) lines) (after_ahead (option_map seen record_ahead) records)
-    ≡ in_front event (merge lines (after_ahead (option_map seen record_ahead) records)))
+pub line_step : (record_ahead line_ahead : Option Seen) (records lines : Schedule) → next_of record_ahead line_ahead ≡ nexts.Line → IfNone record_ahead (records ≡ over None)
+    → IsSomeAnd line_ahead (λ event. merge (after_ahead line_ahead lines) (after_ahead record_ahead records)
+    ≡ in_front event (merge lines (after_ahead record_ahead records)))
 line_step None None records lines is ends = cc
 line_step (Some record_event) None records lines is ends = cc
-line_step None (Some event) records lines is ends = line_alone (seen event) lines records ends
+line_step None (Some event) records lines is ends = line_alone event lines records ends
 line_step (Some record_event) (Some event) records lines is ends =
-    line_before (seen event) (seen record_event) lines records (chose_line (nat_le event.tick record_event.tick) is)
+    line_before event record_event lines records (chose_line (nat_le event.tick record_event.tick) is)
 
 -- neither is next
-pub end_step : (record_ahead line_ahead : Option Event) → next_of record_ahead line_ahead ≡ nexts.End → (record_ahead ≡ None) × (line_ahead ≡ None)
+pub end_step : (record_ahead line_ahead : Option Seen) → next_of record_ahead line_ahead ≡ nexts.End → (record_ahead ≡ None) × (line_ahead ≡ None)
 end_step None None is = (refl, refl)
 end_step (Some record_event) None is = cc
 end_step None (Some line_event) is = cc
@@ -107,10 +106,6 @@ cut_over limit recording stop is = ap (cut_to limit) is
 pub none_weaker : {X : Type 0} {P Q : Type 0} (found : Option X) → (P → Q) → IfNone found P → IfNone found Q
 none_weaker None weaker is = weaker is
 none_weaker (Some value) weaker is = is
-
-pub none_seen : (P : Type 0) (found : Option Event) → IfNone found P → IfNone (option_map seen found) P
-none_seen P None is = is
-none_seen P (Some event) is = is
 
 pub of_some : {X : Type 0} {P : X → Type 0} {Q : Type 0} (found : Option X) → ((value : X) → P value → Q) → IsSomeAnd found P → Q
 of_some None uses is = absurd is

@@ -10,7 +10,7 @@ use Rattle.psd_base.specs.Desk.{Told}
 use Rattle.capture_reader.specs.Capture.{header, records}
 use Rattle.capture_reader.specs.Source.{later, IsCaptureStop, OpenFailed}
 use Rattle.capture_reader.specs.Window.{Held, coming, still}
-use Rattle.capture_reader.proofs.Ahead.{coming_is, coming_past, coming_ended}
+use Rattle.capture_reader.proofs.Looks.{coming_is, coming_past, coming_ended}
 
 pub header-append : (xs ys : List ℕ) → 8 ≤ length xs → header (xs ++ ys) ≡ header xs
 unfolding header
@@ -20,7 +20,7 @@ header-append xs ys whole =
     let long : nat_lt (length xs) 8 ≡ false = grind (arith, nat_tests) in
     rw (longer, long, at 0 (omega arith), at 1 (omega arith), at 2 (omega arith), at 3 (omega arith), at 4 (omega arith), at 5 (omega arith), at 6 (omega arith), at 7 (omega arith)) refl
 
-header-short : (xs : List ℕ) → length xs < 8 → header xs ≡ Err (stops.Capture 0 Truncated)
+pub header-short : (xs : List ℕ) → length xs < 8 → header xs ≡ Err (stops.Capture 0 Truncated)
 unfolding header
 header-short xs short =
     let test : nat_lt (length xs) 8 ≡ true = grind (arith, nat_tests) in

@@ -17,6 +17,11 @@ none_at_false : (b : Bool) (i : ℕ) → cond b (Some i) None ≡ None → b ≡
 none_at_false true i is = cc
 none_at_false false i is = refl
 
+pub found_at : (p : ℕ → Bool) (xs : List ℕ) (i : ℕ) → position_or_len p xs ≡ i → i < length xs → position p xs ≡ Some i
+found_at p xs i is below =
+    let test : ltb (position_or_len p xs) (length xs) ≡ true = grind (arith, nat_tests) in
+    rw test (ap Some is)
+
 pub position_missing : (p : ℕ → Bool) (xs : List ℕ) → position p xs ≡ None → length xs ≤ position_or_len p xs
 position_missing p xs is =
     let no = none_at_false (ltb (position_or_len p xs) (length xs)) (position_or_len p xs) is in grind (arith, nat_tests)

@@ -11,7 +11,7 @@ use Rattle.capture_reader.specs.Lines.{later_lines, LinesEnd}
 use Rattle.capture_reader.specs.Script.{first_line, line_at, lines}
 use Rattle.capture_reader.specs.Source.{after_ahead}
 use Rattle.capture_reader.specs.Window.{Held, coming, still, FrontLine}
-use Rattle.capture_reader.proofs.Ahead.{coming_is, coming_ended, coming_past}
+use Rattle.capture_reader.proofs.Looks.{coming_is, coming_ended, coming_past}
 
 -- so many bytes are passed over
 lines_skipped : (ports last number skip : ℕ) (bytes : List ℕ) → lines ports last number skip bytes ≡ lines ports last number 0 (drop skip bytes)

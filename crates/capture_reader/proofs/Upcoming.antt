@@ -1,14 +1,11 @@
 -- What is to come after each step of a run.
 use Rattle.std.proofs.Common.{◌≡◌, ◌≢◌, ℕ, Bool, true, false, ◌+◌, ◌-◌, ◌<◌, List, Option, Some, None, option_map, IfNone, IfErr, Result, Ok, Err, refl, sym, ap, ◌∙◌, subst}
 use Rattle.std.proofs.lemmas.Option.{MatchOption-at_none}
-use Rattle.psd_base.specs.declared.event.Event.{Event}
-use Rattle.psd_base.specs.declared.outlet.Input.{Input}
 use Rattle.psd_base.specs.declared.outlet.Input.TheVariants as inputs
 use Rattle.psd_base.specs.declared.stop.Stop.{Stop}
 use Rattle.psd_base.specs.declared.stop.Stop.TheVariants as stops
 use Rattle.psd_base.specs.declared.stop.Stop.TheVariants.{TooLong}
 use Rattle.psd_base.specs.Desk.{Told}
-use Rattle.psd_base.specs.Event.{seen}
 use Rattle.capture_reader.specs.declared.next.Next.TheVariants as nexts
 use Rattle.capture_reader.specs.declared.progress.Progress.{Progress}
 use Rattle.capture_reader.specs.declared.progress.State.{State}
@@ -16,6 +13,7 @@ use Rattle.capture_reader.specs.declared.progress.State.TheVariants.{Waiting, Gi
 use Rattle.capture_reader.specs.declared.script.ScriptSource.{ScriptSource}
 use Rattle.capture_reader.specs.declared.source.CaptureSource.{CaptureSource}
 use Rattle.capture_reader.specs.Capture.{records}
+use Rattle.capture_reader.specs.Ahead.{ahead_of, line_of}
 use Rattle.capture_reader.specs.Schedule.{Schedule, over}
 use Rattle.capture_reader.specs.Lines.{later_lines, LinesEnd, LineLookFailed}
 use Rattle.capture_reader.specs.Progress.{reading, next_of, IsSound, LinesFit, RecordsFit, given_in, record_waiting, line_waiting, stop_in}
@@ -24,8 +22,10 @@ use Rattle.capture_reader.specs.Merge.{cut_to, merged}
 use Rattle.capture_reader.specs.Script.{lines}
 use Rattle.capture_reader.specs.Source.{later, after_ahead, Ends, LookFailed}
 use Rattle.capture_reader.specs.Window.{coming, still}
-use Rattle.capture_reader.proofs.Ahead.{some_and}
-use Rattle.capture_reader.proofs.Merging.{record_step, line_step, both_end, capture_over, script_over, cut_next, cut_full, cut_over, none_weaker, none_seen, of_some}
+use Rattle.capture_reader.proofs.Looks.{some_and}
+use Rattle.capture_reader.proofs.Giving.{no_record_held, no_line_held}
+use Rattle.capture_reader.proofs.Taken.{no_whole_line}
+use Rattle.capture_reader.proofs.Merging.{record_step, line_step, both_end, capture_over, script_over, cut_next, cut_full, cut_over, none_weaker, of_some}
 
 -- what is to come, by what the records and the lines say that are still to come
 pub rest_is : (reading : Reading) (capture_left script_left : Option (List ℕ)) → rest reading capture_left script_left
@@ -43,49 +43,49 @@ nothing_before (Some recording) = refl
 
 -- a look at a record leaves what is to come
 pub rest_record : (now new : CaptureSource) (script : ScriptSource) (limit served tick : ℕ) (left left_after script_left : Option (List ℕ)) → new.ports ≡ now.ports
-    → later now.ports now.tick now.offset now.window left ≡ option_map (after_ahead (option_map seen new.ahead)) (later new.ports new.tick new.offset new.window left_after)
+    → later now.ports now.tick now.offset now.window left ≡ option_map (after_ahead (ahead_of new.ahead)) (later new.ports new.tick new.offset new.window left_after)
     → rest (reading (record { capture = new; script = script; limit = limit; served = served; tick = tick; state = Waiting })) left_after script_left
     ≡ rest (reading (record { capture = now; script = script; limit = limit; served = served; tick = tick; state = GivenRecord })) left script_left
 rest_record now new script limit served tick left left_after script_left ports read =
-    let lines_after : ℕ → Option Schedule = λ n. option_map (after_ahead (option_map seen script.ahead)) (later_lines n script.tick script.line script.window script_left) in
+    let lines_after : ℕ → Option Schedule = λ n. option_map (after_ahead (line_of script.ahead)) (later_lines n script.tick script.line script.window script_left) in
     rest_is (reading (record { capture = new; script = script; limit = limit; served = served; tick = tick; state = Waiting })) left_after script_left
     ∙ ap (λ records. merged (limit - served) records (lines_after new.ports)) (sym read ∙ sym (nothing_before (later now.ports now.tick now.offset now.window left)))
     ∙ ap (λ n. merged (limit - served) (option_map (after_ahead None) (later now.ports now.tick now.offset now.window left)) (lines_after n)) ports
     ∙ sym (rest_is (reading (record { capture = now; script = script; limit = limit; served = served; tick = tick; state = GivenRecord })) left script_left)
 
 pub rest_record-failed : (now new : CaptureSource) (script : ScriptSource) (limit served tick : ℕ) (stop : Stop) (left left_after script_left : Option (List ℕ)) → new.ports ≡ now.ports
-    → new.ahead ≡ None → later new.ports new.tick new.offset new.window left_after ≡ later now.ports now.tick now.offset now.window left
+    → ahead_of new.ahead ≡ None → later new.ports new.tick new.offset new.window left_after ≡ later now.ports now.tick now.offset now.window left
     → rest (reading (record { capture = new; script = script; limit = limit; served = served; tick = tick; state = Stopped stop })) left_after script_left
     ≡ rest (reading (record { capture = now; script = script; limit = limit; served = served; tick = tick; state = GivenRecord })) left script_left
 rest_record-failed now new script limit served tick stop left left_after script_left ports none same =
-    let lines_after : ℕ → Option Schedule = λ n. option_map (after_ahead (option_map seen script.ahead)) (later_lines n script.tick script.line script.window script_left) in
+    let lines_after : ℕ → Option Schedule = λ n. option_map (after_ahead (line_of script.ahead)) (later_lines n script.tick script.line script.window script_left) in
     rest_is (reading (record { capture = new; script = script; limit = limit; served = served; tick = tick; state = Stopped stop })) left_after script_left
-    ∙ ap (λ ahead. merged (limit - served) (option_map (after_ahead (option_map seen ahead)) (later new.ports new.tick new.offset new.window left_after)) (lines_after new.ports)) none
+    ∙ ap (λ ahead. merged (limit - served) (option_map (after_ahead ahead) (later new.ports new.tick new.offset new.window left_after)) (lines_after new.ports)) none
     ∙ ap (λ records. merged (limit - served) (option_map (after_ahead None) records) (lines_after new.ports)) same
     ∙ ap (λ n. merged (limit - served) (option_map (after_ahead None) (later now.ports now.tick now.offset now.window left)) (lines_after n)) ports
     ∙ sym (rest_is (reading (record { capture = now; script = script; limit = limit; served = served; tick = tick; state = GivenRecord })) left script_left)
 
 -- a look at a line leaves what is to come
 pub rest_line : (now new : ScriptSource) (capture : CaptureSource) (limit served tick : ℕ) (capture_left left left_after : Option (List ℕ)) → now.ports ≡ capture.ports → new.ports ≡ capture.ports
-    → later_lines now.ports now.tick now.line now.window left ≡ option_map (after_ahead (option_map seen new.ahead)) (later_lines new.ports new.tick new.line new.window left_after)
+    → later_lines now.ports now.tick now.line now.window left ≡ option_map (after_ahead (line_of new.ahead)) (later_lines new.ports new.tick new.line new.window left_after)
     → rest (reading (record { capture = capture; script = new; limit = limit; served = served; tick = tick; state = Waiting })) capture_left left_after
     ≡ rest (reading (record { capture = capture; script = now; limit = limit; served = served; tick = tick; state = GivenLine })) capture_left left
 rest_line now new capture limit served tick capture_left left left_after ports ports_after read =
-    let records_after : Option Schedule = option_map (after_ahead (option_map seen capture.ahead)) (later capture.ports capture.tick capture.offset capture.window capture_left) in
+    let records_after : Option Schedule = option_map (after_ahead (ahead_of capture.ahead)) (later capture.ports capture.tick capture.offset capture.window capture_left) in
     rest_is (reading (record { capture = capture; script = new; limit = limit; served = served; tick = tick; state = Waiting })) capture_left left_after
-    ∙ ap (λ n. merged (limit - served) records_after (option_map (after_ahead (option_map seen new.ahead)) (later_lines n new.tick new.line new.window left_after))) (sym ports_after)
+    ∙ ap (λ n. merged (limit - served) records_after (option_map (after_ahead (line_of new.ahead)) (later_lines n new.tick new.line new.window left_after))) (sym ports_after)
     ∙ ap (merged (limit - served) records_after) (sym read ∙ sym (nothing_before (later_lines now.ports now.tick now.line now.window left)))
     ∙ ap (λ n. merged (limit - served) records_after (option_map (after_ahead None) (later_lines n now.tick now.line now.window left))) ports
     ∙ sym (rest_is (reading (record { capture = capture; script = now; limit = limit; served = served; tick = tick; state = GivenLine })) capture_left left)
 
 pub rest_line-failed : (now new : ScriptSource) (capture : CaptureSource) (limit served tick : ℕ) (stop : Stop) (capture_left left left_after : Option (List ℕ)) → now.ports ≡ capture.ports → new.ports ≡ capture.ports
-    → new.ahead ≡ None → later_lines new.ports new.tick new.line new.window left_after ≡ later_lines now.ports now.tick now.line now.window left
+    → line_of new.ahead ≡ None → later_lines new.ports new.tick new.line new.window left_after ≡ later_lines now.ports now.tick now.line now.window left
     → rest (reading (record { capture = capture; script = new; limit = limit; served = served; tick = tick; state = Stopped stop })) capture_left left_after
     ≡ rest (reading (record { capture = capture; script = now; limit = limit; served = served; tick = tick; state = GivenLine })) capture_left left
 rest_line-failed now new capture limit served tick stop capture_left left left_after ports ports_after none same =
-    let records_after : Option Schedule = option_map (after_ahead (option_map seen capture.ahead)) (later capture.ports capture.tick capture.offset capture.window capture_left) in
+    let records_after : Option Schedule = option_map (after_ahead (ahead_of capture.ahead)) (later capture.ports capture.tick capture.offset capture.window capture_left) in
     rest_is (reading (record { capture = capture; script = new; limit = limit; served = served; tick = tick; state = Stopped stop })) capture_left left_after
-    ∙ ap (λ ahead. merged (limit - served) records_after (option_map (after_ahead (option_map seen ahead)) (later_lines capture.ports new.tick new.line new.window left_after))) none
+    ∙ ap (λ ahead. merged (limit - served) records_after (option_map (after_ahead ahead) (later_lines capture.ports new.tick new.line new.window left_after))) none
     ∙ ap (λ n. merged (limit - served) records_after (option_map (after_ahead None) (later_lines n new.tick new.line new.window left_after))) (sym ports_after)
     ∙ ap (λ lines. merged (limit - served) records_after (option_map (after_ahead None) lines)) same
     ∙ ap (λ n. merged (limit - served) records_after (option_map (after_ahead None) (later_lines n now.tick now.line now.window left))) ports
@@ -93,58 +93,58 @@ rest_line-failed now new capture limit served tick stop capture_left left left_a
 
 -- the record that was read ahead is given
 pub gives_record : (capture : CaptureSource) (script : ScriptSource) (limit served tick tick_after : ℕ) (capture_left script_left : Option (List ℕ))
-    → next_of capture.ahead script.ahead ≡ nexts.Record → served < limit → IfNone script.ahead (LinesEnd capture.ports script.tick script.line script.window None)
+    → next_of (ahead_of capture.ahead) (line_of script.ahead) ≡ nexts.Record → served < limit → IfNone (line_of script.ahead) (LinesEnd capture.ports script.tick script.line script.window None)
     → GivesNext (reading (record { capture = capture; script = script; limit = limit; served = served + 1; tick = tick_after; state = GivenRecord }))
     (rest (reading (record { capture = capture; script = script; limit = limit; served = served; tick = tick; state = Waiting })) capture_left script_left)
     (rest (reading (record { capture = capture; script = script; limit = limit; served = served + 1; tick = tick_after; state = GivenRecord })) capture_left script_left)
 unfolding rest upcoming records_to_come lines_to_come
 gives_record capture script limit served tick tick_after None script_left next below ends =
-    some_and (option_map seen capture.ahead) (λ event step. refl) (record_step capture.ahead script.ahead (over None) (over None) next (none_weaker script.ahead (λ all. refl) ends))
+    some_and (ahead_of capture.ahead) (λ event step. refl) (record_step (ahead_of capture.ahead) (line_of script.ahead) (over None) (over None) next (none_weaker (line_of script.ahead) (λ all. refl) ends))
 gives_record capture script limit served tick tick_after (Some capture_left) None next below ends =
-    some_and (option_map seen capture.ahead) (λ event step. refl) (record_step capture.ahead script.ahead (over None) (over None) next (none_weaker script.ahead (λ all. refl) ends))
+    some_and (ahead_of capture.ahead) (λ event step. refl) (record_step (ahead_of capture.ahead) (line_of script.ahead) (over None) (over None) next (none_weaker (line_of script.ahead) (λ all. refl) ends))
 gives_record capture script limit served tick tick_after (Some capture_left) (Some script_left) next below ends =
-    some_and (option_map seen capture.ahead) (λ event step. ap Some (ap (cut_to (limit - served)) step ∙ cut_next limit served event _ below))
-    (record_step capture.ahead script.ahead (records capture.ports capture.tick capture.offset 0 (coming capture.window capture_left)) (lines capture.ports script.tick script.line 0 (coming script.window script_left))
-    next (none_weaker script.ahead (λ all. all script_left) ends))
+    some_and (ahead_of capture.ahead) (λ event step. ap Some (ap (cut_to (limit - served)) step ∙ cut_next limit served event _ below))
+    (record_step (ahead_of capture.ahead) (line_of script.ahead) (records capture.ports capture.tick capture.offset 0 (coming capture.window capture_left)) (lines capture.ports script.tick script.line 0 (coming script.window script_left))
+    next (none_weaker (line_of script.ahead) (λ all. all script_left) ends))
 
 -- the line that was read ahead is given
 pub gives_line : (capture : CaptureSource) (script : ScriptSource) (limit served tick tick_after : ℕ) (capture_left script_left : Option (List ℕ))
-    → next_of capture.ahead script.ahead ≡ nexts.Line → served < limit → IfNone capture.ahead (Ends capture.ports capture.tick capture.offset capture.window None)
+    → next_of (ahead_of capture.ahead) (line_of script.ahead) ≡ nexts.Line → served < limit → IfNone (ahead_of capture.ahead) (Ends capture.ports capture.tick capture.offset capture.window None)
     → GivesNext (reading (record { capture = capture; script = script; limit = limit; served = served + 1; tick = tick_after; state = GivenLine }))
     (rest (reading (record { capture = capture; script = script; limit = limit; served = served; tick = tick; state = Waiting })) capture_left script_left)
     (rest (reading (record { capture = capture; script = script; limit = limit; served = served + 1; tick = tick_after; state = GivenLine })) capture_left script_left)
 unfolding rest upcoming records_to_come lines_to_come
 gives_line capture script limit served tick tick_after None script_left next below ends =
-    some_and (option_map seen script.ahead) (λ event step. refl) (line_step capture.ahead script.ahead (over None) (over None) next (none_weaker capture.ahead (λ all. refl) ends))
+    some_and (line_of script.ahead) (λ event step. refl) (line_step (ahead_of capture.ahead) (line_of script.ahead) (over None) (over None) next (none_weaker (ahead_of capture.ahead) (λ all. refl) ends))
 gives_line capture script limit served tick tick_after (Some capture_left) None next below ends =
-    some_and (option_map seen script.ahead) (λ event step. refl) (line_step capture.ahead script.ahead (over None) (over None) next (none_weaker capture.ahead (λ all. refl) ends))
+    some_and (line_of script.ahead) (λ event step. refl) (line_step (ahead_of capture.ahead) (line_of script.ahead) (over None) (over None) next (none_weaker (ahead_of capture.ahead) (λ all. refl) ends))
 gives_line capture script limit served tick tick_after (Some capture_left) (Some script_left) next below ends =
-    some_and (option_map seen script.ahead) (λ event step. ap Some (ap (cut_to (limit - served)) step ∙ cut_next limit served event _ below))
-    (line_step capture.ahead script.ahead (records capture.ports capture.tick capture.offset 0 (coming capture.window capture_left)) (lines capture.ports script.tick script.line 0 (coming script.window script_left))
-    next (none_weaker capture.ahead (λ all. all capture_left) ends))
+    some_and (line_of script.ahead) (λ event step. ap Some (ap (cut_to (limit - served)) step ∙ cut_next limit served event _ below))
+    (line_step (ahead_of capture.ahead) (line_of script.ahead) (records capture.ports capture.tick capture.offset 0 (coming capture.window capture_left)) (lines capture.ports script.tick script.line 0 (coming script.window script_left))
+    next (none_weaker (ahead_of capture.ahead) (λ all. all capture_left) ends))
 
 -- one more event than the limit
 
-pub too_many-record : (capture : CaptureSource) (script : ScriptSource) (limit served tick : ℕ) → next_of capture.ahead script.ahead ≡ nexts.Record → served ≡ limit
-    → IfNone script.ahead (LinesEnd capture.ports script.tick script.line script.window None)
+pub too_many-record : (capture : CaptureSource) (script : ScriptSource) (limit served tick : ℕ) → next_of (ahead_of capture.ahead) (line_of script.ahead) ≡ nexts.Record → served ≡ limit
+    → IfNone (line_of script.ahead) (LinesEnd capture.ports script.tick script.line script.window None)
     → ShowsOver (Some TooLong) (reading (record { capture = capture; script = script; limit = limit; served = served; tick = tick; state = Stopped TooLong }))
 unfolding upcoming records_to_come lines_to_come
 too_many-record capture script limit served tick next full ends capture_left script_left =
-    of_some (option_map seen capture.ahead) (λ event step. ap (cut_to (limit - served)) step ∙ cut_full limit served event _ full)
-    (record_step capture.ahead script.ahead (records capture.ports capture.tick capture.offset 0 (coming capture.window capture_left)) (lines capture.ports script.tick script.line 0 (coming script.window script_left))
-    next (none_weaker script.ahead (λ all. all script_left) ends))
+    of_some (ahead_of capture.ahead) (λ event step. ap (cut_to (limit - served)) step ∙ cut_full limit served event _ full)
+    (record_step (ahead_of capture.ahead) (line_of script.ahead) (records capture.ports capture.tick capture.offset 0 (coming capture.window capture_left)) (lines capture.ports script.tick script.line 0 (coming script.window script_left))
+    next (none_weaker (line_of script.ahead) (λ all. all script_left) ends))
 
-pub too_many-line : (capture : CaptureSource) (script : ScriptSource) (limit served tick : ℕ) → next_of capture.ahead script.ahead ≡ nexts.Line → served ≡ limit
-    → IfNone capture.ahead (Ends capture.ports capture.tick capture.offset capture.window None)
+pub too_many-line : (capture : CaptureSource) (script : ScriptSource) (limit served tick : ℕ) → next_of (ahead_of capture.ahead) (line_of script.ahead) ≡ nexts.Line → served ≡ limit
+    → IfNone (ahead_of capture.ahead) (Ends capture.ports capture.tick capture.offset capture.window None)
     → ShowsOver (Some TooLong) (reading (record { capture = capture; script = script; limit = limit; served = served; tick = tick; state = Stopped TooLong }))
 unfolding upcoming records_to_come lines_to_come
 too_many-line capture script limit served tick next full ends capture_left script_left =
-    of_some (option_map seen script.ahead) (λ event step. ap (cut_to (limit - served)) step ∙ cut_full limit served event _ full)
-    (line_step capture.ahead script.ahead (records capture.ports capture.tick capture.offset 0 (coming capture.window capture_left)) (lines capture.ports script.tick script.line 0 (coming script.window script_left))
-    next (none_weaker capture.ahead (λ all. all capture_left) ends))
+    of_some (line_of script.ahead) (λ event step. ap (cut_to (limit - served)) step ∙ cut_full limit served event _ full)
+    (line_step (ahead_of capture.ahead) (line_of script.ahead) (records capture.ports capture.tick capture.offset 0 (coming capture.window capture_left)) (lines capture.ports script.tick script.line 0 (coming script.window script_left))
+    next (none_weaker (ahead_of capture.ahead) (λ all. all capture_left) ends))
 
 -- nothing was read ahead, and nothing comes
-pub shows_end : (capture : CaptureSource) (script : ScriptSource) (limit served tick : ℕ) → capture.ahead ≡ None → script.ahead ≡ None
+pub shows_end : (capture : CaptureSource) (script : ScriptSource) (limit served tick : ℕ) → ahead_of capture.ahead ≡ None → line_of script.ahead ≡ None
     → Ends capture.ports capture.tick capture.offset capture.window None → LinesEnd capture.ports script.tick script.line script.window None
     → ShowsOver None (reading (record { capture = capture; script = script; limit = limit; served = served; tick = tick; state = Waiting }))
 unfolding upcoming records_to_come lines_to_come
@@ -153,14 +153,14 @@ shows_end capture script limit served tick no_record no_line records_end lines_e
 
 -- the capture shows its fault, or the script
 
-pub shows_capture : (capture : CaptureSource) (script : ScriptSource) (limit served tick : ℕ) (answer stop : Stop) → capture.ahead ≡ None
-    → Ends capture.ports capture.tick capture.offset capture.window (Some stop) → IfNone script.ahead (LinesEnd capture.ports script.tick script.line script.window None)
+pub shows_capture : (capture : CaptureSource) (script : ScriptSource) (limit served tick : ℕ) (answer stop : Stop) → ahead_of capture.ahead ≡ None
+    → Ends capture.ports capture.tick capture.offset capture.window (Some stop) → IfNone (line_of script.ahead) (LinesEnd capture.ports script.tick script.line script.window None)
     → ShowsOver (Some stop) (reading (record { capture = capture; script = script; limit = limit; served = served; tick = tick; state = Stopped answer }))
 unfolding upcoming records_to_come lines_to_come
 shows_capture capture script limit served tick answer stop none ends lines_end capture_left script_left =
-    rw none (cut_over (limit - served) _ (Some stop) (capture_over (option_map seen script.ahead) _ _ stop (ends capture_left) (none_seen _ script.ahead (none_weaker script.ahead (λ all. all script_left) lines_end))))
+    rw none (cut_over (limit - served) _ (Some stop) (capture_over (line_of script.ahead) _ _ stop (ends capture_left) (none_weaker (line_of script.ahead) (λ all. all script_left) lines_end)))
 
-pub shows_script : (capture : CaptureSource) (script : ScriptSource) (limit served tick : ℕ) (answer stop : Stop) → script.ahead ≡ None
+pub shows_script : (capture : CaptureSource) (script : ScriptSource) (limit served tick : ℕ) (answer stop : Stop) → line_of script.ahead ≡ None
     → LinesEnd capture.ports script.tick script.line script.window (Some stop)
     → ShowsOver (Some stop) (reading (record { capture = capture; script = script; limit = limit; served = served; tick = tick; state = Stopped answer }))
 unfolding upcoming records_to_come lines_to_come
@@ -190,7 +190,7 @@ rest_stopped progress stop capture_left script_left waiting =
 
 -- a look at the capture that failed is the cause of a stop
 pub capture_stops : (progress : Progress) (before : Option Schedule) (capture_left script_left : Option (List ℕ)) (desk desk_after : Told) (answer stop : Stop) → progress.state ≡ Stopped answer
-    → progress.capture.ahead ≡ None → IfNone progress.script.ahead (LinesEnd progress.capture.ports progress.script.tick progress.script.line progress.script.window None)
+    → ahead_of progress.capture.ahead ≡ None → IfNone (line_of progress.script.ahead) (LinesEnd progress.capture.ports progress.script.tick progress.script.line progress.script.window None)
     → rest (reading progress) capture_left script_left ≡ before
     → LookFailed progress.capture.ports progress.capture.tick progress.capture.offset progress.capture.window desk desk_after stop
     → StopsBecause (reading progress) before desk desk_after stop
@@ -204,14 +204,17 @@ capture_stops progress before capture_left script_left desk desk_after answer (s
 capture_stops progress before capture_left script_left desk desk_after answer (stops.Script line why) state none lines_end same failed = absurd failed
 capture_stops progress before capture_left script_left desk desk_after answer stops.TooLong state none lines_end same failed = absurd failed
 capture_stops progress before capture_left script_left desk desk_after answer (stops.ReadFault inputs.Rules) state none lines_end same failed = failed
-capture_stops progress before capture_left script_left desk desk_after answer (stops.ReadFault inputs.Capture) state none lines_end same failed = failed
+capture_stops progress before capture_left script_left desk desk_after answer (stops.ReadFault inputs.Capture) state none lines_end same failed =
+    let capture : CaptureSource = progress.capture in
+    let waits = ap (λ (state : State). record_waiting state (ahead_of capture.ahead)) state ∙ none in
+    (failed.0, (failed.2, no_record_held capture.ports capture.tick capture.offset capture.window (record_waiting progress.state (ahead_of capture.ahead)) waits failed.1))
 capture_stops progress before capture_left script_left desk desk_after answer (stops.ReadFault inputs.Script) state none lines_end same failed = absurd failed
 capture_stops progress before capture_left script_left desk desk_after answer (stops.WriteFault outlet) state none lines_end same failed = failed
 capture_stops progress before capture_left script_left desk desk_after answer stops.OutOfMemory state none lines_end same failed = failed
 
 -- and one at the script
 pub script_stops : (progress : Progress) (before : Option Schedule) (capture_left script_left : Option (List ℕ)) (desk desk_after : Told) (answer stop : Stop) → progress.state ≡ Stopped answer
-    → progress.script.ahead ≡ None → progress.script.ports ≡ progress.capture.ports
+    → line_of progress.script.ahead ≡ None → progress.script.ports ≡ progress.capture.ports
     → rest (reading progress) capture_left script_left ≡ before
     → LineLookFailed progress.script.ports progress.script.tick progress.script.line progress.script.window desk desk_after stop
     → StopsBecause (reading progress) before desk desk_after stop
@@ -227,37 +230,36 @@ script_stops progress before capture_left script_left desk desk_after answer (st
 script_stops progress before capture_left script_left desk desk_after answer stops.TooLong state none ports same failed = absurd failed
 script_stops progress before capture_left script_left desk desk_after answer (stops.ReadFault inputs.Rules) state none ports same failed = failed
 script_stops progress before capture_left script_left desk desk_after answer (stops.ReadFault inputs.Capture) state none ports same failed = absurd failed
-script_stops progress before capture_left script_left desk desk_after answer (stops.ReadFault inputs.Script) state none ports same failed = failed
+script_stops progress before capture_left script_left desk desk_after answer (stops.ReadFault inputs.Script) state none ports same failed =
+    let script : ScriptSource = progress.script in
+    let waits = ap (λ (state : State). line_waiting state (line_of script.ahead)) state ∙ none in
+    (failed.0, (failed.2, no_line_held script.tick script.line script.window (line_waiting progress.state (line_of script.ahead)) waits (no_whole_line script.window.bytes failed.1)))
 script_stops progress before capture_left script_left desk desk_after answer (stops.WriteFault outlet) state none ports same failed = failed
 script_stops progress before capture_left script_left desk desk_after answer stops.OutOfMemory state none ports same failed = failed
 
-nothing_seen : (ahead : Option Event) → option_map seen ahead ≡ None → ahead ≡ None
-nothing_seen None none = refl
-nothing_seen (Some event) none = absurd (cc)
-
 -- nothing was read ahead where nothing waits
 
-pub no_record_waits : (progress : Progress) → progress.state ≡ Waiting → (reading progress).capture.ahead ≡ None → progress.capture.ahead ≡ None
+pub no_record_waits : (progress : Progress) → progress.state ≡ Waiting → (reading progress).capture.ahead ≡ None → ahead_of progress.capture.ahead ≡ None
 no_record_waits progress waiting none =
-    let P : State → Type 0 = λ state. record_waiting state (option_map seen progress.capture.ahead) ≡ None in
-    nothing_seen progress.capture.ahead (subst P waiting none)
+    let P : State → Type 0 = λ state. record_waiting state (ahead_of progress.capture.ahead) ≡ None in
+    subst P waiting none
 
-pub no_line_waits : (progress : Progress) → progress.state ≡ Waiting → (reading progress).script.ahead ≡ None → progress.script.ahead ≡ None
+pub no_line_waits : (progress : Progress) → progress.state ≡ Waiting → (reading progress).script.ahead ≡ None → line_of progress.script.ahead ≡ None
 no_line_waits progress waiting none =
-    let P : State → Type 0 = λ state. line_waiting state (option_map seen progress.script.ahead) ≡ None in
-    nothing_seen progress.script.ahead (subst P waiting none)
+    let P : State → Type 0 = λ state. line_waiting state (line_of progress.script.ahead) ≡ None in
+    subst P waiting none
 
 -- the end, at this step or an earlier one
-pub ended : (new old : Progress) (before : Option Schedule) (capture_left script_left : Option (List ℕ)) → new ≡ old → old.state ≡ Waiting → old.capture.ahead ≡ None → old.script.ahead ≡ None
+pub ended : (new old : Progress) (before : Option Schedule) (capture_left script_left : Option (List ℕ)) → new ≡ old → old.state ≡ Waiting → ahead_of old.capture.ahead ≡ None → line_of old.script.ahead ≡ None
     → ShowsOver None (reading new) → rest (reading new) capture_left script_left ≡ before → IsAtEnd (reading new) × ShowsOver None (reading new) × IsOver None before
 ended new old before capture_left script_left same waiting no_record no_line shows rest_is =
     let state : new.state ≡ Waiting = ap (λ (progress : Progress). progress.state) same ∙ waiting in
-    let record_ahead : new.capture.ahead ≡ None = ap (λ (progress : Progress). progress.capture.ahead) same ∙ no_record in
-    let line_ahead : new.script.ahead ≡ None = ap (λ (progress : Progress). progress.script.ahead) same ∙ no_line in
+    let record_ahead : ahead_of new.capture.ahead ≡ None = ap (λ (progress : Progress). (ahead_of progress.capture.ahead)) same ∙ no_record in
+    let line_ahead : line_of new.script.ahead ≡ None = ap (λ (progress : Progress). (line_of progress.script.ahead)) same ∙ no_line in
     let end : IsAtEnd (reading new) = record {
-      nothing_given = ap (λ (state : State). given_in state (option_map seen new.capture.ahead) (option_map seen new.script.ahead)) state;
-      no_record = ap (λ (state : State). record_waiting state (option_map seen new.capture.ahead)) state ∙ ap (option_map seen) record_ahead;
-      no_line = ap (λ (state : State). line_waiting state (option_map seen new.script.ahead)) state ∙ ap (option_map seen) line_ahead;
+      nothing_given = ap (λ (state : State). given_in state (ahead_of new.capture.ahead) (line_of new.script.ahead)) state;
+      no_record = ap (λ (state : State). record_waiting state (ahead_of new.capture.ahead)) state ∙ record_ahead;
+      no_line = ap (λ (state : State). line_waiting state (line_of new.script.ahead)) state ∙ line_ahead;
       no_stop = ap stop_in state;
     } in
     (end, shows, over_before None (reading new) capture_left script_left before rest_is shows)
@@ -285,25 +287,25 @@ only_stops Q (Err stop) not_true not_false is uses = uses stop is
 -- a source of which nothing was read ahead is at its end
 
 pub waiting_records : (progress : Progress) → IsSound progress → progress.state ≡ Waiting
-    → IfNone progress.capture.ahead (Ends progress.capture.ports progress.capture.tick progress.capture.offset progress.capture.window None)
+    → IfNone (ahead_of progress.capture.ahead) (Ends progress.capture.ports progress.capture.tick progress.capture.offset progress.capture.window None)
 waiting_records progress sound waiting = subst (λ (state : State). RecordsFit state progress.capture) waiting sound.records
 
 lines_at_ports : (progress : Progress) → progress.script.ports ≡ progress.capture.ports
-    → IfNone progress.script.ahead (LinesEnd progress.script.ports progress.script.tick progress.script.line progress.script.window None)
-    → IfNone progress.script.ahead (LinesEnd progress.capture.ports progress.script.tick progress.script.line progress.script.window None)
-lines_at_ports progress ports fits = subst (λ n. IfNone progress.script.ahead (LinesEnd n progress.script.tick progress.script.line progress.script.window None)) ports fits
+    → IfNone (line_of progress.script.ahead) (LinesEnd progress.script.ports progress.script.tick progress.script.line progress.script.window None)
+    → IfNone (line_of progress.script.ahead) (LinesEnd progress.capture.ports progress.script.tick progress.script.line progress.script.window None)
+lines_at_ports progress ports fits = subst (λ n. IfNone (line_of progress.script.ahead) (LinesEnd n progress.script.tick progress.script.line progress.script.window None)) ports fits
 
 pub waiting_lines : (progress : Progress) → IsSound progress → progress.state ≡ Waiting
-    → IfNone progress.script.ahead (LinesEnd progress.capture.ports progress.script.tick progress.script.line progress.script.window None)
+    → IfNone (line_of progress.script.ahead) (LinesEnd progress.capture.ports progress.script.tick progress.script.line progress.script.window None)
 waiting_lines progress sound waiting = lines_at_ports progress sound.same_ports (subst (λ (state : State). LinesFit state progress.script) waiting sound.lines)
 
 pub record_lines : (progress : Progress) → IsSound progress → progress.state ≡ GivenRecord
-    → IfNone progress.script.ahead (LinesEnd progress.capture.ports progress.script.tick progress.script.line progress.script.window None)
+    → IfNone (line_of progress.script.ahead) (LinesEnd progress.capture.ports progress.script.tick progress.script.line progress.script.window None)
 record_lines progress sound given = lines_at_ports progress sound.same_ports (subst (λ (state : State). LinesFit state progress.script) given sound.lines)
 
 -- the event of a source is given
 
-pub record_given : (old new : Progress) (tick : ℕ) (capture_left script_left : Option (List ℕ)) → IsSound old → old.state ≡ Waiting → next_of old.capture.ahead old.script.ahead ≡ nexts.Record
+pub record_given : (old new : Progress) (tick : ℕ) (capture_left script_left : Option (List ℕ)) → IsSound old → old.state ≡ Waiting → next_of (ahead_of old.capture.ahead) (line_of old.script.ahead) ≡ nexts.Record
     → old.served < old.limit → new ≡ record old { served = old.served + 1; tick = tick; state = GivenRecord }
     → GivesNext (reading new) (rest (reading old) capture_left script_left) (rest (reading new) capture_left script_left)
 record_given old new tick capture_left script_left sound waiting next below same =
@@ -313,7 +315,7 @@ record_given old new tick capture_left script_left sound waiting next below same
     subst Q (sym same) (subst P (sym waiting)
     (gives_record old.capture old.script old.limit old.served old.tick tick capture_left script_left next below (waiting_lines old sound waiting)))
 
-pub line_given : (old new : Progress) (tick : ℕ) (capture_left script_left : Option (List ℕ)) → IsSound old → old.state ≡ Waiting → next_of old.capture.ahead old.script.ahead ≡ nexts.Line
+pub line_given : (old new : Progress) (tick : ℕ) (capture_left script_left : Option (List ℕ)) → IsSound old → old.state ≡ Waiting → next_of (ahead_of old.capture.ahead) (line_of old.script.ahead) ≡ nexts.Line
     → old.served < old.limit → new ≡ record old { served = old.served + 1; tick = tick; state = GivenLine }
     → GivesNext (reading new) (rest (reading old) capture_left script_left) (rest (reading new) capture_left script_left)
 line_given old new tick capture_left script_left sound waiting next below same =
@@ -323,20 +325,20 @@ line_given old new tick capture_left script_left sound waiting next below same =
     subst Q (sym same) (subst P (sym waiting)
     (gives_line old.capture old.script old.limit old.served old.tick tick capture_left script_left next below (waiting_records old sound waiting)))
 
-pub record_refused : (old new : Progress) → IsSound old → old.state ≡ Waiting → next_of old.capture.ahead old.script.ahead ≡ nexts.Record → old.served ≡ old.limit
+pub record_refused : (old new : Progress) → IsSound old → old.state ≡ Waiting → next_of (ahead_of old.capture.ahead) (line_of old.script.ahead) ≡ nexts.Record → old.served ≡ old.limit
     → new ≡ record old { state = Stopped TooLong } → ShowsOver (Some TooLong) (reading new)
 record_refused old new sound waiting next full same =
     subst (λ (progress : Progress). ShowsOver (Some TooLong) (reading progress)) (sym same)
     (too_many-record old.capture old.script old.limit old.served old.tick next full (waiting_lines old sound waiting))
 
-pub line_refused : (old new : Progress) → IsSound old → old.state ≡ Waiting → next_of old.capture.ahead old.script.ahead ≡ nexts.Line → old.served ≡ old.limit
+pub line_refused : (old new : Progress) → IsSound old → old.state ≡ Waiting → next_of (ahead_of old.capture.ahead) (line_of old.script.ahead) ≡ nexts.Line → old.served ≡ old.limit
     → new ≡ record old { state = Stopped TooLong } → ShowsOver (Some TooLong) (reading new)
 line_refused old new sound waiting next full same =
     subst (λ (progress : Progress). ShowsOver (Some TooLong) (reading progress)) (sym same)
     (too_many-line old.capture old.script old.limit old.served old.tick next full (waiting_records old sound waiting))
 
 -- neither source has an event
-pub nothing_comes : (progress : Progress) → IsSound progress → progress.state ≡ Waiting → progress.capture.ahead ≡ None → progress.script.ahead ≡ None → ShowsOver None (reading progress)
+pub nothing_comes : (progress : Progress) → IsSound progress → progress.state ≡ Waiting → ahead_of progress.capture.ahead ≡ None → line_of progress.script.ahead ≡ None → ShowsOver None (reading progress)
 nothing_comes progress sound waiting no_record no_line =
     subst (λ (state : State). ShowsOver None (reading (record progress { state = state }))) (sym waiting)
     (shows_end progress.capture progress.script progress.limit progress.served progress.tick no_record no_line
@@ -350,9 +352,9 @@ refused_rest old new capture_left script_left waiting same =
 
 -- a look at the capture leaves the script as it was
 pub lines_still : (old new : Progress) → new.script ≡ old.script → new.capture.ports ≡ old.capture.ports
-    → IfNone old.script.ahead (LinesEnd old.capture.ports old.script.tick old.script.line old.script.window None)
-    → IfNone new.script.ahead (LinesEnd new.capture.ports new.script.tick new.script.line new.script.window None)
+    → IfNone (line_of old.script.ahead) (LinesEnd old.capture.ports old.script.tick old.script.line old.script.window None)
+    → IfNone (line_of new.script.ahead) (LinesEnd new.capture.ports new.script.tick new.script.line new.script.window None)
 lines_still old new script ports fits =
-    let P : ScriptSource → Type 0 = λ source. IfNone source.ahead (LinesEnd new.capture.ports source.tick source.line source.window None) in
-    let Q : ℕ → Type 0 = λ n. IfNone old.script.ahead (LinesEnd n old.script.tick old.script.line old.script.window None) in
+    let P : ScriptSource → Type 0 = λ source. IfNone (line_of source.ahead) (LinesEnd new.capture.ports source.tick source.line source.window None) in
+    let Q : ℕ → Type 0 = λ n. IfNone (line_of old.script.ahead) (LinesEnd n old.script.tick old.script.line old.script.window None) in
     subst P (sym script) (subst Q (sym ports) fits)

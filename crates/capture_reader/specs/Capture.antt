@@ -1,17 +1,22 @@
 -- The capture: a header of eight bytes, then records to the end of the input. Numbers of several bytes have their low byte first.
-use Rattle.std.specs.Prelude.{ℕ, zero, suc, ◌+◌, ◌-◌, ◌*◌, Bool, ◌&&◌, ◌==◌, nat_lt, nat_le, List, [], ◌∷◌, length, drop, slice_index, slice_range, Option, Some, None, Result, Ok, Err, if◌then◌else◌}
+use Rattle.std.specs.Prelude.{ℕ, zero, suc, ◌+◌, ◌-◌, ◌*◌, Bool, ◌&&◌, ◌==◌, nat_lt, nat_le, List, [], ◌∷◌, length, drop, slice_index, slice_range, Some, None, Result, Ok, Err, if◌then◌else◌}
 use Rattle.psd_base.specs.declared.act.Act.{Act}
 use Rattle.psd_base.specs.declared.act.Act.TheVariants as act
 use Rattle.psd_base.specs.declared.act.Side.TheVariants.{Km, Ua}
+use Rattle.psd_base.specs.declared.console.Plug.{Plug}
+use Rattle.psd_base.specs.declared.console.Plug.TheVariants.{Keyboard, Mouse}
+use Rattle.psd_base.specs.declared.packet.TheConstants.{BLOCK_SIZE, PACKET_SIZE}
 use Rattle.psd_base.specs.declared.port.TheConstants.{MAX_PORTS}
 use Rattle.psd_base.specs.declared.stop.CaptureFault.{CaptureFault}
 use Rattle.psd_base.specs.declared.stop.CaptureFault.TheVariants.{BadMagic, BadPorts, Truncated, TickBack, BadKind, BadWho, BadLength, BadField}
 use Rattle.psd_base.specs.declared.stop.Stop.{Stop}
 use Rattle.psd_base.specs.declared.stop.Stop.TheVariants as stops
-use Rattle.psd_base.specs.Event.{Happening, TimePasses, PortActs, Seen}
+use Rattle.psd_base.specs.Event.{Doing, TimePasses, Attaches, Detaches, Replies, Reports, Happening, PortActs, AtFront, Seen}
 use Rattle.psd_base.specs.Setup.{little_endian, setup_of}
 use Rattle.capture_reader.specs.declared.form.ActKind.{ActKind}
 use Rattle.capture_reader.specs.declared.form.ActKind.TheVariants as acts
+use Rattle.capture_reader.specs.declared.form.PlugKind.{PlugKind}
+use Rattle.capture_reader.specs.declared.form.PlugKind.TheVariants as plugs
 use Rattle.capture_reader.specs.declared.form.Kind.{Kind}
 use Rattle.capture_reader.specs.declared.form.Kind.TheVariants as kinds
 use Rattle.capture_reader.specs.declared.form.Form.{Form}
@@ -39,10 +44,14 @@ header bytes =
     else (if begins_with_magic bytes then (if has_fit_ports bytes then Ok (slice_index bytes 4) else Err (stops.Capture 4 BadPorts))
     else Err (stops.Capture 0 BadMagic))
 
+-- the number of four bytes at this place
+abbrev pub word_at : List ℕ → ℕ → ℕ
+word_at bytes at = little_endian (slice_index bytes at) (slice_index bytes (at + 1)) + 65536 * little_endian (slice_index bytes (at + 2)) (slice_index bytes (at + 3))
+
 -- A record begins with eight bytes: the tick in four, the kind and the acting party in one each, and in two the length of the payload that follows them.
 abbrev pub head_of : List ℕ → Head
 head_of bytes = record {
-  tick = little_endian (slice_index bytes 0) (slice_index bytes 1) + 65536 * little_endian (slice_index bytes 2) (slice_index bytes 3);
+  tick = word_at bytes 0;
   kind = slice_index bytes 4;
   who = slice_index bytes 5;
   length = little_endian (slice_index bytes 6) (slice_index bytes 7);
@@ -62,28 +71,43 @@ kind_of number =
     else (if number == 0x11 then Ok (kinds.Act acts.Setup)
     else (if number == 0x12 then Ok (kinds.Act acts.Out)
     else (if number == 0x13 then Ok (kinds.Act acts.In)
-    else Err BadKind))))
+    else (if number == 0x20 then Ok (kinds.Plug plugs.Attach)
+    else (if number == 0x21 then Ok (kinds.Plug plugs.Detach)
+    else (if number == 0x22 then Ok (kinds.Plug plugs.Reply)
+    else (if number == 0x23 then Ok (kinds.Plug plugs.Report)
+    else Err BadKind))))))))
 
--- Nobody acts at a Clock. The connectors of port p are 40 + p and 80 + p in hexadecimal.
+-- Nobody acts at a Clock. The connectors of port p are 40 + p and 80 + p in hexadecimal. The plugs are 1 for the keyboard and 2
+-- for the mouse.
 unfoldable pub form_of : Kind → ℕ → ℕ → Result Form CaptureFault
 form_of kinds.Clock ports who = if who == 0 then Ok forms.Clock else Err BadWho
 form_of (kinds.Act kind) ports who =
     if nat_lt 0x40 who && nat_le who (0x40 + ports) then Ok (forms.Act (who - 0x40) Km kind)
     else (if nat_lt 0x80 who && nat_le who (0x80 + ports) then Ok (forms.Act (who - 0x80) Ua kind)
     else Err BadWho)
+form_of (kinds.Plug kind) ports who =
+    if who == 1 then Ok (forms.Plug Keyboard kind)
+    else (if who == 2 then Ok (forms.Plug Mouse kind)
+    else Err BadWho)
 
 -- Setup: address and eight setup bytes. Out: address, endpoint, toggle and 0 to 64 bytes. In: address, endpoint and acked.
+-- Reply: life and number in four bytes each, status and 0 to 1,024 bytes. Report: interface and 0 to 64 bytes.
 unfoldable pub has_fit_length : Kind → ℕ → Bool
 has_fit_length kinds.Clock size = size == 0
 has_fit_length (kinds.Act acts.Reset) size = size == 0
 has_fit_length (kinds.Act acts.Setup) size = size == 9
-has_fit_length (kinds.Act acts.Out) size = nat_le 3 size && nat_le size 67
+has_fit_length (kinds.Act acts.Out) size = nat_le 3 size && nat_le size (3 + PACKET_SIZE)
 has_fit_length (kinds.Act acts.In) size = size == 3
+has_fit_length (kinds.Plug plugs.Attach) size = size == 0
+has_fit_length (kinds.Plug plugs.Detach) size = size == 0
+has_fit_length (kinds.Plug plugs.Reply) size = nat_le 9 size && nat_le size (9 + BLOCK_SIZE)
+has_fit_length (kinds.Plug plugs.Report) size = nat_le 1 size && nat_le size (1 + PACKET_SIZE)
 
 -- the kind of record that has this form
 abbrev pub kind_in : Form → Kind
 kind_in forms.Clock = kinds.Clock
 kind_in (forms.Act port side kind) = kinds.Act kind
+kind_in (forms.Plug plug kind) = kinds.Plug kind
 
 -- what a head announces, or the first of its checks that fails
 unfoldable pub announced : ℕ → ℕ → Head → Result Form CaptureFault
@@ -93,7 +117,7 @@ announced ports last head =
       form ← form_of kind ports head.who
       if has_fit_length kind head.length then Ok form else Err BadLength
 
--- Addresses are at most 127, endpoints at most 15, toggle and acked 0 or 1.
+-- Addresses are at most 127, endpoints at most 15, toggle and acked 0 or 1, a status at most 3.
 abbrev pub has_fit_fields : List ℕ → Bool
 has_fit_fields payload = nat_le (slice_index payload 0) 127 && nat_le (slice_index payload 1) 15 && nat_le (slice_index payload 2) 1
 
@@ -106,11 +130,21 @@ act_of acts.Out payload =
 act_of acts.In payload =
     if has_fit_fields payload then Ok (act.In (slice_index payload 0) (slice_index payload 1) (slice_index payload 2 == 1)) else Err BadField
 
+unfoldable pub doing_of : PlugKind → Plug → List ℕ → Result Doing CaptureFault
+doing_of plugs.Attach plug payload = Ok (Attaches plug)
+doing_of plugs.Detach plug payload = Ok (Detaches plug)
+doing_of plugs.Reply plug payload =
+    if nat_le (slice_index payload 8) 3 then Ok (Replies plug (word_at payload 0) (word_at payload 4) (slice_index payload 8) (drop 9 payload)) else Err BadField
+doing_of plugs.Report plug payload = Ok (Reports plug (slice_index payload 0) (drop 1 payload))
+
 unfoldable pub happening_in : Form → List ℕ → Result Happening CaptureFault
-happening_in forms.Clock payload = Ok TimePasses
+happening_in forms.Clock payload = Ok (AtFront TimePasses)
 happening_in (forms.Act port side kind) payload = do
   acted ← act_of kind payload
   Ok (PortActs port side acted)
+happening_in (forms.Plug plug kind) payload = do
+  done ← doing_of kind plug payload
+  Ok (AtFront done)
 
 -- the record at the front of the bytes, after one of tick `last`, or the first of its checks that fails
 unfoldable pub record_at : ℕ → ℕ → List ℕ → Result Seen CaptureFault

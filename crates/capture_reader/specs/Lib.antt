@@ -1,3 +1,4 @@
+pub mod Ahead
 pub mod Capture
 pub mod Lines
 pub mod Merge
@@ -6,4 +7,5 @@ pub mod Reader
 pub mod Schedule
 pub mod Script
 pub mod Source
+pub mod Taken
 pub mod Window

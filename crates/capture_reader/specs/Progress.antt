@@ -1,10 +1,9 @@
 -- A reader's value by its parts, and what is so of the parts.
-use Rattle.std.specs.Prelude.{◌≡◌, ℕ, ◌+◌, ◌*◌, ◌≤◌, Option, Some, None, option_map, nat_le, if◌then◌else◌, IsSome, IfSome, IfNone}
-use Rattle.psd_base.specs.declared.event.Event.{Event}
+use Rattle.std.specs.Prelude.{◌≡◌, ℕ, ◌+◌, ◌*◌, ◌≤◌, Bool, true, false, Option, Some, None, nat_le, if◌then◌else◌, IsSome, IfSome, IfNone}
 use Rattle.psd_base.specs.declared.event.TheConstants.{EVENTS_MAX}
 use Rattle.psd_base.specs.declared.port.TheConstants.{MAX_PORTS}
 use Rattle.psd_base.specs.declared.stop.Stop.{Stop}
-use Rattle.psd_base.specs.Event.{HappensWithin, Seen, seen}
+use Rattle.psd_base.specs.Event.{HappensWithin, Seen}
 use Rattle.capture_reader.specs.declared.next.Next.{Next}
 use Rattle.capture_reader.specs.declared.next.Next.TheVariants as nexts
 use Rattle.capture_reader.specs.declared.progress.Progress.{Progress}
@@ -13,12 +12,14 @@ use Rattle.capture_reader.specs.declared.progress.State.TheVariants.{Waiting, Gi
 use Rattle.capture_reader.specs.declared.script.ScriptSource.{ScriptSource}
 use Rattle.capture_reader.specs.declared.source.CaptureSource.{CaptureSource}
 use Rattle.capture_reader.specs.declared.window.TheConstants.{WINDOW_SIZE}
+use Rattle.capture_reader.specs.Ahead.{ahead_of, line_of}
 use Rattle.capture_reader.specs.Lines.{IsNextLine, LinesEndNow}
 use Rattle.capture_reader.specs.Reader.{Following, Reading}
 use Rattle.capture_reader.specs.Source.{EndsNow}
+use Rattle.capture_reader.specs.Taken.{moves_panel}
 
 -- the source whose event comes next, by the record and the line that were read ahead; at equal ticks it is the script
-abbrev pub next_of : Option Event → Option Event → Next
+abbrev pub next_of : Option Seen → Option Seen → Next
 next_of None None = nexts.End
 next_of (Some record_event) None = nexts.Record
 next_of None (Some line_event) = nexts.Line
@@ -53,7 +54,7 @@ stop_in (Stopped stop) = Some stop
 
 abbrev pub capture_reading : State → CaptureSource → Following
 capture_reading state source = record {
-  ahead = record_waiting state (option_map seen source.ahead);
+  ahead = record_waiting state (ahead_of source.ahead);
   tick = source.tick;
   place = source.offset;
   held = source.window;
@@ -61,7 +62,7 @@ capture_reading state source = record {
 
 abbrev pub script_reading : State → ScriptSource → Following
 script_reading state source = record {
-  ahead = line_waiting state (option_map seen source.ahead);
+  ahead = line_waiting state (line_of source.ahead);
   tick = source.tick;
   place = source.line;
   held = source.window;
@@ -72,7 +73,7 @@ reading progress = record {
   limit = progress.limit;
   served = progress.served;
   ports = progress.capture.ports;
-  given = given_in progress.state (option_map seen progress.capture.ahead) (option_map seen progress.script.ahead);
+  given = given_in progress.state (ahead_of progress.capture.ahead) (line_of progress.script.ahead);
   stopped = stop_in progress.state;
   tick = progress.tick;
   capture = capture_reading progress.state progress.capture;
@@ -88,21 +89,22 @@ read_at_most (Stopped stop) served = served + 2
 
 -- where no record is ahead and none was given, the capture is at its end
 abbrev pub RecordsFit : State → CaptureSource → Type 0
-RecordsFit Waiting source = IfNone source.ahead (EndsNow source None)
-RecordsFit GivenRecord source = IsSome source.ahead
-RecordsFit GivenLine source = IfNone source.ahead (EndsNow source None)
+RecordsFit Waiting source = IfNone (ahead_of source.ahead) (EndsNow source None)
+RecordsFit GivenRecord source = IsSome (ahead_of source.ahead)
+RecordsFit GivenLine source = IfNone (ahead_of source.ahead) (EndsNow source None)
 RecordsFit (Stopped stop) source = Unit {0}
 
 -- where no line is ahead and none was given, the script is at its end
 abbrev pub LinesFit : State → ScriptSource → Type 0
-LinesFit Waiting source = IfNone source.ahead (LinesEndNow source None)
-LinesFit GivenRecord source = IfNone source.ahead (LinesEndNow source None)
-LinesFit GivenLine source = IsSome source.ahead
+LinesFit Waiting source = IfNone (line_of source.ahead) (LinesEndNow source None)
+LinesFit GivenRecord source = IfNone (line_of source.ahead) (LinesEndNow source None)
+LinesFit GivenLine source = IsSome (line_of source.ahead)
 LinesFit (Stopped stop) source = Unit {0}
 
--- an event that was read ahead of its source, whose last tick this is, and is not below the last event that was given
-abbrev pub IsAhead : ℕ → ℕ → ℕ → Event → Type 0
-IsAhead ports given_tick tick event = (event.tick ≡ tick) × (given_tick ≤ tick) × HappensWithin ports (seen event).happening
+-- an event that was read ahead of its source, whose last tick this is, and is not below the last event that was given; it moves the
+-- panel, or doesn't
+abbrev pub IsAhead : ℕ → ℕ → ℕ → Bool → Seen → Type 0
+IsAhead ports given_tick tick moves event = (event.tick ≡ tick) × (given_tick ≤ tick) × HappensWithin ports event.happening × (moves_panel event.happening ≡ moves)
 
 -- a capture whose header was read, and no record
 pub record IsOpened (source : CaptureSource) : Type 0 where
@@ -110,21 +112,21 @@ pub record IsOpened (source : CaptureSource) : Type 0 where
   pub ports : source.ports ≤ MAX_PORTS
   pub tick : source.tick ≡ 0
   pub offset : source.offset ≡ 8
-  pub none : source.ahead ≡ None
+  pub none : ahead_of source.ahead ≡ None
 
 -- a script of which nothing was read
 pub record IsUnread (ports : ℕ) (source : ScriptSource) : Type 0 where
   pub same_ports : source.ports ≡ ports
   pub tick : source.tick ≡ 0
   pub line : source.line ≡ 1
-  pub none : source.ahead ≡ None
+  pub none : line_of source.ahead ≡ None
 
 -- a script whose first line was looked at
 pub record IsLookedAt (ports : ℕ) (source : ScriptSource) : Type 0 where
   pub same_ports : source.ports ≡ ports
   pub line : source.line ≤ 2
-  pub ahead : IfSome source.ahead (IsNextLine source)
-  pub lines : IfNone source.ahead (LinesEndNow source None)
+  pub ahead : IfSome (line_of source.ahead) (IsNextLine source)
+  pub lines : IfNone (line_of source.ahead) (LinesEndNow source None)
 
 pub record IsSound (progress : Progress) : Type 0 where
   pub limit : progress.limit ≤ EVENTS_MAX
@@ -134,7 +136,7 @@ pub record IsSound (progress : Progress) : Type 0 where
   pub same_ports : progress.script.ports ≡ progress.capture.ports
   pub offset : progress.capture.offset ≤ WINDOW_SIZE * read_at_most progress.state progress.served
   pub line : progress.script.line ≤ read_at_most progress.state progress.served
-  pub record_ahead : IfSome progress.capture.ahead (IsAhead progress.capture.ports progress.tick progress.capture.tick)
-  pub line_ahead : IfSome progress.script.ahead (IsAhead progress.capture.ports progress.tick progress.script.tick)
+  pub record_ahead : IfSome (ahead_of progress.capture.ahead) (IsAhead progress.capture.ports progress.tick progress.capture.tick false)
+  pub line_ahead : IfSome (line_of progress.script.ahead) (IsAhead progress.capture.ports progress.tick progress.script.tick true)
   pub records : RecordsFit progress.state progress.capture
   pub lines : LinesFit progress.state progress.script

@@ -1,6 +1,5 @@
 -- What a reader has read, and what is still to come.
-use Rattle.std.specs.Prelude.{◌≡◌, ◌≢◌, ℕ, ◌-◌, ◌≤◌, List, [], Option, Some, None, option_map, IfSome, IsSomeAnd}
-use Rattle.psd_base.specs.declared.outlet.Input.{Input}
+use Rattle.std.specs.Prelude.{◌≡◌, ◌≢◌, ℕ, ◌+◌, ◌-◌, ◌≤◌, false, List, [], ◌++◌, length, Option, Some, None, option_map, IfSome, IsSomeAnd}
 use Rattle.psd_base.specs.declared.outlet.Input.TheVariants as inputs
 use Rattle.psd_base.specs.declared.stop.CaptureFault.{CaptureFault}
 use Rattle.psd_base.specs.declared.stop.ScriptFault.{ScriptFault}
@@ -13,7 +12,8 @@ use Rattle.capture_reader.specs.Schedule.{Schedule, in_front, over}
 use Rattle.capture_reader.specs.Merge.{merge, both, cut_to}
 use Rattle.capture_reader.specs.Script.{lines}
 use Rattle.capture_reader.specs.Source.{after_ahead}
-use Rattle.capture_reader.specs.Window.{Held, HasNoLine, coming}
+use Rattle.capture_reader.specs.Taken.{waiting, given_from, whole_lines, Took}
+use Rattle.capture_reader.specs.Window.{Held, coming}
 
 -- how far a source was read
 pub record Following : Type 0 where
@@ -82,13 +82,27 @@ pub record IsAtEnd (reading : Reading) : Type 0 where
   pub no_line : reading.script.ahead ≡ None
   pub no_stop : reading.stopped ≡ None
 
--- the bytes of the capture that were taken and not read hold no whole record
-abbrev pub HoldsNoRecord : Reading → Type 0
-HoldsNoRecord reading = (records reading.ports reading.capture.tick reading.capture.place 0 reading.capture.held.bytes).events ≡ []
+-- how many whole records, and how many whole lines, wait or are in the bytes that were taken and not read, and these further ones
 
--- the bytes of the script that were taken and not read hold no whole line
+unfoldable pub records_held : ℕ → Following → List ℕ → ℕ
+records_held ports source more = waiting source.ahead + length (records ports source.tick source.place 0 (source.held.bytes ++ more)).events
+
+unfoldable pub lines_held : Following → List ℕ → ℕ
+lines_held source more = waiting source.ahead + whole_lines (source.held.bytes ++ more)
+
+-- What a call took of the capture and of the script, and what it gave of that: of the whole records, and of the whole lines, that
+-- there were in all, those are left that are held now.
+pub record TookBoth (records_before lines_before : List ℕ → ℕ) (new : Reading) (told told_after : Told) : Type 0 where
+  pub capture : Took records_before (records_held new.ports new.capture) new.capture.held.ended (told.left inputs.Capture) (told_after.left inputs.Capture) (given_from inputs.Capture new.given)
+  pub script : Took lines_before (lines_held new.script) new.script.held.ended (told.left inputs.Script) (told_after.left inputs.Script) (given_from inputs.Script new.given)
+
+-- the end of the capture wasn't met, and no whole record waits or is in the bytes that were taken and not read
+abbrev pub HoldsNoRecord : Reading → Type 0
+HoldsNoRecord reading = (reading.capture.held.ended ≡ false) × (records_held reading.ports reading.capture [] ≡ 0)
+
+-- the end of the script wasn't met, and no whole line waits or is in the bytes that were taken and not read
 abbrev pub HoldsNoLine : Reading → Type 0
-HoldsNoLine reading = HasNoLine reading.script.held.bytes
+HoldsNoLine reading = (reading.script.held.ended ≡ false) × (lines_held reading.script [] ≡ 0)
 
 -- an event at one of so many ports, which is not below the last one given, and is the last one given now
 abbrev pub IsInOrder : ℕ → ℕ → ℕ → Seen → Type 0

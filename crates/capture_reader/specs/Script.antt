@@ -9,11 +9,12 @@ use Rattle.psd_base.specs.declared.port.TheConstants.{MAX_PORTS}
 use Rattle.psd_base.specs.declared.stop.ScriptFault.{ScriptFault}
 use Rattle.psd_base.specs.declared.stop.ScriptFault.TheVariants.{LineTooLong, NotALine, TickBack, NoSuchPort}
 use Rattle.psd_base.specs.declared.stop.Stop.TheVariants as stops
-use Rattle.psd_base.specs.Event.{Seen, PanelMoves}
+use Rattle.psd_base.specs.Event.{Seen}
 use Rattle.psd_base.specs.History.{or_else}
 use Rattle.psd_base.specs.Reading.{◌>>=◌, number_in}
 use Rattle.capture_reader.specs.declared.form.Said.{Said}
 use Rattle.capture_reader.specs.declared.line.TheConstants.{LINE_MAX}
+use Rattle.capture_reader.specs.Ahead.{said_seen}
 use Rattle.capture_reader.specs.Schedule.{Schedule, in_front, over}
 
 abbrev pub is_line_feed : ℕ → Bool
@@ -87,7 +88,7 @@ has_port ports Tamper = true
 unfoldable pub judged : ℕ → ℕ → Said → Result Seen ScriptFault
 judged ports last said =
     if nat_lt said.tick last then Err TickBack
-    else if has_port ports said.panel then Ok (record { tick = said.tick; happening = PanelMoves said.panel })
+    else if has_port ports said.panel then Ok (said_seen said)
     else Err NoSuchPort
 
 -- the event of a line after one of tick `last`, or the first of its checks that fails

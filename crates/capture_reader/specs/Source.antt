@@ -1,21 +1,18 @@
 -- A capture as a source of events, which is read one record ahead.
-use Rattle.std.specs.Prelude.{◌≡◌, ℕ, ◌≤◌, List, [], length, Option, Some, None, option_map, Ok, Err, IfSome, IsTrue}
+use Rattle.std.specs.Prelude.{◌≡◌, ℕ, ◌≤◌, false, List, [], ◌++◌, length, Option, Some, None, option_map, Ok, Err, IfSome, IsTrue}
 use Rattle.psd_base.specs.declared.outlet.Input.TheVariants as inputs
 use Rattle.psd_base.specs.declared.stop.Stop.{Stop}
 use Rattle.psd_base.specs.declared.stop.Stop.TheVariants as stops
 use Rattle.psd_base.specs.Desk.{ReadFailed, Told}
-use Rattle.psd_base.specs.declared.act.Act.{Act}
-use Rattle.psd_base.specs.declared.event.Event.{Event}
-use Rattle.psd_base.specs.declared.event.What.TheVariants as what
-use Rattle.psd_base.specs.Event.{Seen, HappensWithin, seen}
+use Rattle.psd_base.specs.Event.{Seen, HappensWithin}
 use Rattle.capture_reader.specs.declared.decode.TheConstants.{PAYLOAD_MAX}
 use Rattle.capture_reader.specs.declared.form.Form.{Form}
 use Rattle.capture_reader.specs.declared.form.Form.TheVariants as forms
 use Rattle.capture_reader.specs.declared.form.Head.{Head}
-use Rattle.capture_reader.specs.declared.form.Place.{Place}
 use Rattle.capture_reader.specs.declared.source.CaptureSource.{CaptureSource}
 use Rattle.capture_reader.specs.Capture.{header, head_of, has_fit_length, kind_in, announced, records}
 use Rattle.capture_reader.specs.Schedule.{Schedule, in_front, over}
+use Rattle.capture_reader.specs.Taken.{moves_panel}
 use Rattle.capture_reader.specs.Window.{Held, coming, still}
 
 -- what the records say that are still to come, where the desk has these bytes left or doesn't tell
@@ -44,9 +41,13 @@ EndsNow source stop = Ends source.ports source.tick source.offset source.window 
 abbrev pub IsPartial : ℕ → ℕ → ℕ → Held → Type 0
 IsPartial ports last offset held = (records ports last offset 0 held.bytes).events ≡ []
 
+-- how many whole records are in what is held and these bytes
+unfoldable pub records_in : CaptureSource → List ℕ → ℕ
+records_in source more = length (records source.ports source.tick source.offset 0 (source.window.bytes ++ more)).events
+
 -- why looking ahead failed: a fault that the bytes show, or a failed read, whose count rose, before a record was whole
 abbrev pub LookFailed : ℕ → ℕ → ℕ → Held → Told → Told → Stop → Type 0
-LookFailed ports last offset held told told_after (stops.ReadFault inputs.Capture) = ReadFailed inputs.Capture told told_after × IsPartial ports last offset held
+LookFailed ports last offset held told told_after (stops.ReadFault inputs.Capture) = ReadFailed inputs.Capture told told_after × IsPartial ports last offset held × (held.ended ≡ false)
 LookFailed ports last offset held told told_after (stops.Capture place why) = Ends ports last offset held (Some (stops.Capture place why))
 LookFailed ports last offset held told told_after stop = ⊥
 
@@ -67,6 +68,7 @@ OpenFailed told told_after stop = ⊥
 abbrev pub IsFormWithin : ℕ → Form → Type 0
 IsFormWithin ports forms.Clock = Unit {0}
 IsFormWithin ports (forms.Act port side kind) = port ≤ ports
+IsFormWithin ports (forms.Plug plug kind) = Unit {0}
 
 -- the bytes begin with a sound head
 pub record Announces (ports last : ℕ) (bytes : List ℕ) (head : Head) (form : Form) : Type 0 where
@@ -82,9 +84,5 @@ abbrev pub AnnouncesNext : CaptureSource → Head → Form → Type 0
 AnnouncesNext source head form = Announces source.ports source.tick source.window.bytes head form
 
 -- the next event, whose tick is that of the last record that was read, at one of the ports
-abbrev pub IsNext : CaptureSource → Event → Type 0
-IsNext source event = (event.tick ≡ source.tick) × HappensWithin source.ports (seen event).happening
-
--- the event of an act at its place
-abbrev pub event_at : Place → Act → Event
-event_at place act = record { tick = place.tick; what = what.Port place.port place.side act }
+abbrev pub IsNext : CaptureSource → Seen → Type 0
+IsNext source event = (event.tick ≡ source.tick) × HappensWithin source.ports event.happening × (moves_panel event.happening ≡ false)

@@ -1,5 +1,5 @@
 -- The bytes of an input that are taken and not used up.
-use Rattle.std.specs.Prelude.{◌≡◌, ℕ, ◌+◌, ◌≤◌, Bool, true, List, ◌++◌, length, take, Option, None, option_map, position, if◌then◌else◌}
+use Rattle.std.specs.Prelude.{◌≡◌, ℕ, ◌+◌, ◌≤◌, Bool, true, false, List, ◌++◌, length, take, Option, Some, None, option_map, position, if◌then◌else◌}
 use Rattle.capture_reader.specs.declared.line.TheConstants.{LINE_MAX}
 use Rattle.capture_reader.specs.Script.{is_line_feed, first_line}
 
@@ -20,6 +20,12 @@ still held left = option_map (coming held) left
 abbrev pub Begins : List ℕ → List ℕ → Type 0
 Begins front whole = take (length front) whole ≡ front
 
+-- the bytes that were taken of an input stood in front of what is left, and are held behind what was held
+pub record HeldMore (old new : Held) (left left_after : Option (List ℕ)) : Type 0 where
+  pub bytes : List ℕ
+  pub left_is : left ≡ option_map (λ rest. bytes ++ rest) left_after
+  pub held_is : new.bytes ≡ old.bytes ++ bytes
+
 -- no whole line with its line feed
 abbrev pub HasNoLine : List ℕ → Type 0
 HasNoLine bytes = position is_line_feed bytes ≡ None
@@ -31,3 +37,4 @@ pub record FrontLine (held : Held) (size : ℕ) : Type 0 where
   pub most : size ≤ LINE_MAX + 1
   pub line : (left : List ℕ) → take (LINE_MAX + 1) (first_line (coming held left)) ≡ take size held.bytes
   pub last : size ≤ LINE_MAX → length held.bytes ≤ size → held.ended ≡ true
+  pub feed : held.ended ≡ false → size ≤ LINE_MAX → position is_line_feed held.bytes ≡ Some size

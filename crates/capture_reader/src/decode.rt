@@ -1,20 +1,17 @@
-//! The bytes of a capture: its header, the heads of its records and their payloads.
-ghost use Rattle.std.specs.Prelude.{◌≡◌, ℕ, ◌+◌, ◌-◌, ◌<◌, ◌≤◌, length, IsTrue, OnOk, OnErr, IfOk, IfErr, IfSome, IsOkAnd, IsSomeAnd, Some, Ok, Err};
-ghost use Rattle.capture_reader.specs.Capture.{header, head_of, kind_of, form_of, has_fit_length, kind_in, announced, act_of, happening_in};
-ghost use Rattle.capture_reader.specs.Source.{IsCaptureStop, IsFormWithin, event_at};
-ghost use Rattle.psd_base.specs.Event.{HappensWithin, happening_of, seen};
+//! The bytes of a capture: its header, and the heads of its records.
+ghost use Rattle.std.specs.Prelude.{◌≡◌, ◌≤◌, length, IsTrue, OnOk, IfOk, IfErr, Ok};
+ghost use Rattle.capture_reader.specs.Capture.{header, head_of, kind_of, form_of, has_fit_length, kind_in, announced};
+ghost use Rattle.capture_reader.specs.Source.{IsCaptureStop, IsFormWithin};
 ghost use Rattle.psd_base.specs.Port.{IsPort};
 
-use crate::form::{ActKind, Form, Head, Kind, Place};
-use psd_base::{
-    Act, CaptureFault, Event, MAX_PORTS, Packet, PortId, Setup, Side, Stop, Tick, What,
-};
+use crate::form::{ActKind, Form, Head, Kind, PlugKind};
+use psd_base::{CaptureFault, MAX_PORTS, Plug, PortId, Side, Stop, Tick};
 
 /// The size of the capture's header in bytes, and that of a record's head.
 pub const HEAD_SIZE: usize = 8;
 
-/// The most bytes of a payload: three and a packet.
-pub const PAYLOAD_MAX: u16 = 67;
+/// The most bytes of a payload: those of a reply, nine and a block.
+pub const PAYLOAD_MAX: u16 = 1033;
 
 /// What is added to a port's number for its KM connector.
 const KM_BASE: u8 = 0x40;
@@ -75,6 +72,10 @@ fn read_kind(number: u8) -> Result<Kind, CaptureFault>
         0x11 => Ok(Kind::Act(ActKind::Setup)),
         0x12 => Ok(Kind::Act(ActKind::Out)),
         0x13 => Ok(Kind::Act(ActKind::In)),
+        0x20 => Ok(Kind::Plug(PlugKind::Attach)),
+        0x21 => Ok(Kind::Plug(PlugKind::Detach)),
+        0x22 => Ok(Kind::Plug(PlugKind::Reply)),
+        0x23 => Ok(Kind::Plug(PlugKind::Report)),
         _ => Err(CaptureFault::BadKind),
     }
 }
@@ -107,6 +108,20 @@ fn connector(number: u8, side: Side, kind: ActKind) -> Result<Form, CaptureFault
     }
 }
 
+/// The plug of which a record speaks: that of the keyboard, or that of the mouse.
+#[tactic(auto, unfolding(crate::specs::Capture::form_of))]
+fn read_plug(kind: PlugKind, ports: u8, who: u8) -> Result<Form, CaptureFault>
+    ensures value { result ≡ form_of (Kind.Plug kind) ports who }
+    ensures kind { IfOk result (λ form. kind_in form ≡ Kind.Plug kind) }
+    ensures within { IfOk result (IsFormWithin ports) }
+{
+    match who {
+        1 => Ok(Form::Plug(Plug::Keyboard, kind)),
+        2 => Ok(Form::Plug(Plug::Mouse, kind)),
+        _ => Err(CaptureFault::BadWho),
+    }
+}
+
 /// Who acts, for this kind of record.
 #[tactic(auto, unfolding(crate::specs::Capture::form_of))]
 fn read_form(kind: Kind, ports: u8, who: u8) -> Result<Form, CaptureFault>
@@ -124,6 +139,7 @@ fn read_form(kind: Kind, ports: u8, who: u8) -> Result<Form, CaptureFault>
             }
         }
         Kind::Act(act) => read_connector(act, ports, who),
+        Kind::Plug(plug) => read_plug(plug, ports, who),
     }
 }
 
@@ -139,6 +155,10 @@ fn fits(kind: Kind, length: u16) -> bool
         Kind::Act(ActKind::Setup) => length == 9,
         Kind::Act(ActKind::Out) => 3 <= length && length <= 67,
         Kind::Act(ActKind::In) => length == 3,
+        Kind::Plug(PlugKind::Attach) => length == 0,
+        Kind::Plug(PlugKind::Detach) => length == 0,
+        Kind::Plug(PlugKind::Reply) => 9 <= length && length <= PAYLOAD_MAX,
+        Kind::Plug(PlugKind::Report) => 1 <= length && length <= 65,
     }
 }
 
@@ -162,169 +182,4 @@ pub fn announce(ports: u8, last: Tick, head: &Head) -> Result<Form, CaptureFault
         return Err(CaptureFault::BadLength);
     }
     Ok(form)
-}
-
-/// Puts an act of a host into its place, by the payload of such a record.
-#[tactic(auto, unfolding(crate::specs::Capture::has_fit_length))]
-fn read_act(
-    at: &Place,
-    kind: ActKind,
-    payload: &[u8],
-    into: &mut Option<Event>,
-) -> Result<(), CaptureFault>
-    requires { IsTrue (has_fit_length (Kind.Act kind) (length payload.now)) }
-    ensures ok { OnOk result (IsOkAnd (act_of kind payload.now) (λ act. into.new
-        ≡ Some (event_at at.now act))) }
-    ensures err { IfErr result (λ why. act_of kind payload.now ≡ Err why) }
-    ensures same { OnErr result (into.new ≡ into.old) }
-{
-    match kind {
-        ActKind::Reset => read_reset(at, payload, into),
-        ActKind::Setup => read_setup(at, payload, into),
-        ActKind::Out => read_out(at, payload, into),
-        ActKind::In => read_in(at, payload, into),
-    }
-}
-
-#[tactic(auto, unfolding(crate::specs::Capture::act_of))]
-fn read_reset(at: &Place, payload: &[u8], into: &mut Option<Event>) -> Result<(), CaptureFault>
-    requires { length payload.now ≡ 0 }
-    ensures ok { OnOk result (IsOkAnd (act_of ActKind.Reset payload.now) (λ act. into.new
-        ≡ Some (event_at at.now act))) }
-    ensures err { IfErr result (λ why. act_of ActKind.Reset payload.now ≡ Err why) }
-    ensures same { OnErr result (into.new ≡ into.old) }
-{
-    *into = Some(Event {
-        tick: at.tick,
-        what: What::Port(at.port, at.side, Act::Reset),
-    });
-    Ok(())
-}
-
-#[tactic(auto, unfolding(crate::specs::Capture::act_of))]
-fn read_setup(at: &Place, payload: &[u8], into: &mut Option<Event>) -> Result<(), CaptureFault>
-    requires { length payload.now ≡ 9 }
-    ensures ok { OnOk result (IsOkAnd (act_of ActKind.Setup payload.now) (λ act. into.new
-        ≡ Some (event_at at.now act))) }
-    ensures err { IfErr result (λ why. act_of ActKind.Setup payload.now ≡ Err why) }
-    ensures same { OnErr result (into.new ≡ into.old) }
-{
-    let address = payload[0];
-    if address > 127 {
-        return Err(CaptureFault::BadField);
-    }
-    let setup = Setup::read(&[
-        payload[1], payload[2], payload[3], payload[4], payload[5], payload[6], payload[7],
-        payload[8],
-    ]);
-    *into = Some(Event {
-        tick: at.tick,
-        what: What::Port(at.port, at.side, Act::Setup { address, setup }),
-    });
-    Ok(())
-}
-
-#[tactic(auto, unfolding(crate::specs::Capture::act_of))]
-fn read_out(at: &Place, payload: &[u8], into: &mut Option<Event>) -> Result<(), CaptureFault>
-    requires at_least { 3 ≤ length payload.now }
-    requires at_most { length payload.now ≤ 67 }
-    ensures ok { OnOk result (IsOkAnd (act_of ActKind.Out payload.now) (λ act. into.new
-        ≡ Some (event_at at.now act))) }
-    ensures err { IfErr result (λ why. act_of ActKind.Out payload.now ≡ Err why) }
-    ensures same { OnErr result (into.new ≡ into.old) }
-{
-    let (address, endpoint, toggle) = (payload[0], payload[1], payload[2]);
-    if address > 127 || endpoint > 15 || toggle > 1 {
-        return Err(CaptureFault::BadField);
-    }
-    *into = Some(Event {
-        tick: at.tick,
-        what: What::Port(
-            at.port,
-            at.side,
-            Act::Out {
-                address,
-                endpoint,
-                toggle: toggle == 1,
-                bytes: Packet::from_slice(&payload[3..]),
-            },
-        ),
-    });
-    Ok(())
-}
-
-#[tactic(auto, unfolding(crate::specs::Capture::act_of))]
-fn read_in(at: &Place, payload: &[u8], into: &mut Option<Event>) -> Result<(), CaptureFault>
-    requires { length payload.now ≡ 3 }
-    ensures ok { OnOk result (IsOkAnd (act_of ActKind.In payload.now) (λ act. into.new
-        ≡ Some (event_at at.now act))) }
-    ensures err { IfErr result (λ why. act_of ActKind.In payload.now ≡ Err why) }
-    ensures same { OnErr result (into.new ≡ into.old) }
-{
-    let (address, endpoint, acked) = (payload[0], payload[1], payload[2]);
-    if address > 127 || endpoint > 15 || acked > 1 {
-        return Err(CaptureFault::BadField);
-    }
-    *into = Some(Event {
-        tick: at.tick,
-        what: What::Port(
-            at.port,
-            at.side,
-            Act::In {
-                address,
-                endpoint,
-                acked: acked == 1,
-            },
-        ),
-    });
-    Ok(())
-}
-
-/// Puts the event of a record of this form and tick into its place. An event in its place costs fewer copies than one
-/// that is handed on.
-#[tactic(auto, unfolding(crate::specs::Capture::happening_in))]
-pub fn read_event(
-    tick: Tick,
-    form: Form,
-    payload: &[u8],
-    into: &mut Option<Event>,
-) -> Result<(), CaptureFault>
-    requires { IsTrue (has_fit_length (kind_in form) (length payload.now)) }
-    ensures ok { OnOk result (IsSomeAnd into.new (λ event. (event.tick ≡ tick)
-        × (happening_in form payload.now ≡ Ok (happening_of event.what)))) }
-    ensures err { IfErr result (λ why. happening_in form payload.now ≡ Err why) }
-    ensures same { OnErr result (into.new ≡ into.old) }
-    ensures within { (ports : ℕ) → IsFormWithin ports form → OnOk result (IfSome into.new
-        (λ event. HappensWithin ports (happening_of event.what))) }
-{
-    match form {
-        Form::Clock => {
-            *into = Some(Event {
-                tick,
-                what: What::Clock,
-            });
-            Ok(())
-        }
-        Form::Act(port, side, kind) => read_act(&Place { tick, port, side }, kind, payload, into),
-    }
-}
-
-/// The same event again.
-pub fn duplicate(event: &Event) -> Event
-    ensures { seen result ≡ seen event.now }
-{
-    match &event.what {
-        What::Clock => Event {
-            tick: event.tick,
-            what: What::Clock,
-        },
-        What::Port(port, side, act) => Event {
-            tick: event.tick,
-            what: What::Port(*port, *side, act.duplicate()),
-        },
-        What::Panel(panel) => Event {
-            tick: event.tick,
-            what: What::Panel(*panel),
-        },
-    }
 }

@@ -1,5 +1,5 @@
 //! What the head of a record says, and what a line of the script says.
-use psd_base::{Panel, PortId, Side, Tick};
+use psd_base::{Panel, Plug, PortId, Side, Tick};
 
 /// The kinds of act of a host.
 #[derive(Clone, Copy, Debug, PartialEq, Eq)]
@@ -10,11 +10,21 @@ pub enum ActKind {
     In,
 }
 
+/// What a record can say of a plug of the console.
+#[derive(Clone, Copy, Debug, PartialEq, Eq)]
+pub enum PlugKind {
+    Attach,
+    Detach,
+    Reply,
+    Report,
+}
+
 /// The kinds of record.
 #[derive(Clone, Copy, Debug, PartialEq, Eq)]
 pub enum Kind {
     Clock,
     Act(ActKind),
+    Plug(PlugKind),
 }
 
 /// The first eight bytes of a record. `length` counts the bytes of the payload that follows.
@@ -31,14 +41,7 @@ pub struct Head {
 pub enum Form {
     Clock,
     Act(PortId, Side, ActKind),
-}
-
-/// Where an act happens, and when.
-#[derive(Clone, Copy, Debug, PartialEq, Eq)]
-pub struct Place {
-    pub tick: Tick,
-    pub port: PortId,
-    pub side: Side,
+    Plug(Plug, PlugKind),
 }
 
 /// What a line of the script says: a tick, and a move at the panel.

@@ -1,10 +1,12 @@
 //! Reads a capture and a button script, and gives their events one at a time in the order of the ticks.
 #![tactic(auto)]
 
+mod ahead;
 mod decode;
 mod form;
 mod line;
 mod next;
+mod payload;
 mod progress;
 mod reader;
 mod script;
@@ -13,6 +15,3 @@ mod window;
 
 pub use reader::Reader;
 pub use window::read_behind;
-
-#[cfg(test)]
-mod tests;

@@ -2,12 +2,13 @@
 ghost use Rattle.std.specs.Prelude.{◌≡◌, ◌≢◌, ℕ, ◌+◌, ◌≤◌, List, [], ◌∷◌, true, false, length, position, IfNone, IfSome, IfOk, IfErr, Ok, Err, OnOk};
 ghost use Rattle.std.specs.List.{before_first, after_first};
 ghost use Rattle.psd_base.specs.declared.console.Panel.TheVariants.{Guard, Tamper};
-ghost use Rattle.psd_base.specs.Event.{HappensWithin, MovesWithin, seen};
+ghost use Rattle.psd_base.specs.Event.{MovesWithin};
+ghost use Rattle.capture_reader.specs.Ahead.{said_seen};
 ghost use Rattle.psd_base.specs.Port.{IsPort};
 ghost use Rattle.capture_reader.specs.Script.{is_space, digit_of, buttons, checks, move_among, tick_in, panel_in, said_in, has_port, judged, line_at};
 
 use crate::form::Said;
-use psd_base::{CHECKS, Event, MAX_PORTS, Panel, PortId, ScriptFault, Tick, What, number_in};
+use psd_base::{CHECKS, MAX_PORTS, Panel, PortId, ScriptFault, Tick, number_in};
 
 /// The most bytes of a line before its line feed.
 pub const LINE_MAX: usize = 64;
@@ -182,14 +183,14 @@ fn has_port(ports: u8, panel: &Panel) -> bool
     }
 }
 
-/// The event that was said after a line of tick `last`, or its fault: the tick first, then the port.
+/// What was said, after a line of tick `last`, or its fault: the tick first, then the port.
 #[tactic(auto, unfolding(crate::specs::Script::judged))]
-fn judge(ports: u8, last: Tick, said: &Said) -> Result<Event, ScriptFault>
-    requires { MovesWithin MAX_PORTS said.now.panel }
-    ensures ok { IfOk result (λ event. judged ports last said.now ≡ Ok (seen event)) }
-    ensures err { IfErr result (λ why. judged ports last said.now ≡ Err why) }
-    ensures ordered { IfOk result (λ event. last ≤ event.tick) }
-    ensures within { IfOk result (λ event. HappensWithin ports (seen event).happening) }
+fn judge(ports: u8, last: Tick, said: Said) -> Result<Said, ScriptFault>
+    requires { MovesWithin MAX_PORTS said.panel }
+    ensures ok { IfOk result (λ line. judged ports last said ≡ Ok (said_seen line)) }
+    ensures err { IfErr result (λ why. judged ports last said ≡ Err why) }
+    ensures ordered { IfOk result (λ line. last ≤ line.tick) }
+    ensures within { IfOk result (λ line. MovesWithin ports line.panel) }
 {
     if said.tick < last {
         return Err(ScriptFault::TickBack);
@@ -197,27 +198,24 @@ fn judge(ports: u8, last: Tick, said: &Said) -> Result<Event, ScriptFault>
     if !has_port(ports, &said.panel) {
         return Err(ScriptFault::NoSuchPort);
     }
-    Ok(Event {
-        tick: said.tick,
-        what: What::Panel(said.panel),
-    })
+    Ok(said)
 }
 
-/// The event of a line after one of tick `last`, or the first of its checks that fails: the length, the form, the
-/// tick, and the port.
+/// What a line says after one of tick `last`, or the first of its checks that fails: the length, the form, the tick,
+/// and the port.
 #[tactic(auto, unfolding(crate::specs::Script::line_at))]
-pub fn read_line(ports: u8, last: Tick, line: &[u8]) -> Result<Event, ScriptFault>
-    ensures ok { IfOk result (λ event. line_at ports last line.now ≡ Ok (seen event)) }
+pub fn read_line(ports: u8, last: Tick, line: &[u8]) -> Result<Said, ScriptFault>
+    ensures ok { IfOk result (λ said. line_at ports last line.now ≡ Ok (said_seen said)) }
     ensures err { IfErr result (λ why. line_at ports last line.now ≡ Err why) }
     ensures short { OnOk result (length line.now ≤ LINE_MAX) }
-    ensures ordered { IfOk result (λ event. last ≤ event.tick) }
-    ensures within { IfOk result (λ event. HappensWithin ports (seen event).happening) }
+    ensures ordered { IfOk result (λ said. last ≤ said.tick) }
+    ensures within { IfOk result (λ said. MovesWithin ports said.panel) }
 {
     if line.len() > LINE_MAX {
         return Err(ScriptFault::LineTooLong);
     }
     match read_said(line) {
-        Some(said) => judge(ports, last, &said),
+        Some(said) => judge(ports, last, said),
         None => Err(ScriptFault::NotALine),
     }
 }

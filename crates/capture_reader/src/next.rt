@@ -1,8 +1,10 @@
 //! Which source gives the next event.
 ghost use Rattle.std.specs.Prelude.{◌≡◌};
+ghost use Rattle.capture_reader.specs.Ahead.{ahead_of, line_of};
 ghost use Rattle.capture_reader.specs.Progress.{next_of};
 
-use psd_base::Event;
+use crate::ahead::Ahead;
+use crate::form::Said;
 
 /// The source that gives the next event.
 #[derive(Clone, Copy, Debug, PartialEq, Eq)]
@@ -13,20 +15,20 @@ pub enum Next {
     End,
 }
 
-/// The source whose event comes next, by the events that were read ahead. At equal ticks it is the script.
+/// The source whose event comes next, by the record and the line that were read ahead. At equal ticks it is the script.
 #[inline(always)]
-pub fn next_source(capture: &Option<Event>, script: &Option<Event>) -> Next
-    ensures { result ≡ next_of capture.now script.now }
+pub fn next_source(capture: &Ahead, script: &Option<Said>) -> Next
+    ensures { result ≡ next_of (ahead_of capture.now) (line_of script.now) }
 {
     match script {
-        None => match capture {
+        None => match &capture.kept {
             None => Next::End,
             Some(_) => Next::Record,
         },
-        Some(line) => match capture {
+        Some(line) => match &capture.kept {
             None => Next::Line,
-            Some(other) => {
-                if line.tick <= other.tick {
+            Some(_) => {
+                if line.tick <= capture.tick {
                     Next::Line
                 } else {
                     Next::Record

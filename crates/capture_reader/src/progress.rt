@@ -1,7 +1,6 @@
 //! How far a run has come: the events that were given, and those that were read ahead of the two sources.
 ghost use Rattle.std.specs.Prelude.{◌≡◌};
 
-use crate::decode::duplicate;
 use crate::next::{Next, next_source};
 use crate::script::ScriptSource;
 use crate::source::CaptureSource;
@@ -44,12 +43,14 @@ impl Progress {
     ghost use Rattle.std.specs.Prelude.{◌≡◌, ◌≢◌, ◌⊎◌, ℕ, ◌+◌, ◌<◌, ◌≤◌, List, [], true, false, Option, Some, None, Ok, Err};
     ghost use Rattle.std.specs.Prelude.{option_map, IsSome, IfSome, IfNone, IfOk, IfErr, OnOk};
     ghost use Rattle.psd_base.specs.Event.{seen};
-    ghost use Rattle.capture_reader.specs.Lines.{lines_later, lines_with_ahead, FailedLineLook};
-    ghost use Rattle.capture_reader.specs.Progress.{reading, IsOpened, IsUnread, IsLookedAt, IsSound};
-    ghost use Rattle.capture_reader.specs.Reader.{rest, rest_told, GivesNext, IsAtEnd, IsInOrder, IsLooked, IsOver, NewFailed, ShowsOver, StopsBecause};
+    ghost use Rattle.capture_reader.specs.Ahead.{ahead_of, line_of};
+    ghost use Rattle.capture_reader.specs.Lines.{lines_in, lines_later, lines_with_ahead, FailedLineLook};
+    ghost use Rattle.capture_reader.specs.Progress.{reading, script_reading, IsOpened, IsUnread, IsLookedAt, IsSound};
+    ghost use Rattle.capture_reader.specs.Reader.{rest, rest_told, records_held, lines_held, TookBoth, GivesNext, IsAtEnd, IsInOrder, IsLooked, IsOver, NewFailed, ShowsOver, StopsBecause};
     ghost use Rattle.capture_reader.specs.Merge.{schedule_told, merged, port_count};
-    ghost use Rattle.capture_reader.specs.Source.{records_later, FailedLook};
-    ghost use Rattle.psd_base.specs.Desk.{OnlyReads, ReadsSources};
+    ghost use Rattle.capture_reader.specs.Source.{records_in, records_later, FailedLook};
+    ghost use Rattle.capture_reader.specs.Taken.{whole_records, whole_lines, FailsFirst, FailsBehind, LooksAt};
+    ghost use Rattle.psd_base.specs.Desk.{NoOutlet, OnlyReads, ReadsSources, Told, Touches};
 
     /// Reads the capture's header, looks at the first line of the script, and then at the first record.
     pub fn begin<D: Desk>(
@@ -69,6 +70,10 @@ impl Progress {
         ensures rest { IfOk result (λ progress. rest_told (reading progress) (D.told desk.new)
             ≡ schedule_told limit (D.told desk.old)) }
         ensures looked { OnOk result (IsLooked (schedule_told limit (D.told desk.old))) }
+        ensures took { IfOk result (λ progress. TookBoth whole_records whole_lines (reading progress)
+            (D.told desk.old) (D.told desk.new)) }
+        ensures first { IfErr result (FailsFirst whole_records whole_lines
+            (D.told desk.old) (D.told desk.new)) }
         ensures err { IfErr result (NewFailed (schedule_told limit (D.told desk.old))
             (D.told desk.old) (D.told desk.new) ⊥) }
         ensures only { ReadsSources (D.told desk.old) (D.told desk.new) }
@@ -100,6 +105,10 @@ impl Progress {
             IfOk result (λ progress. rest_told (reading progress) (D.told desk.new) ≡ before) }
         ensures looked { let before = merged limit (records_later capture (D.told desk.old)) (lines_later script (D.told desk.old)) in
             OnOk result (IsLooked before) }
+        ensures took { IfOk result (λ progress. TookBoth (records_in capture) (lines_in script)
+            (reading progress) (D.told desk.old) (D.told desk.new)) }
+        ensures first { IfErr result (FailsFirst (records_in capture) (lines_in script)
+            (D.told desk.old) (D.told desk.new)) }
         ensures err { let before = merged limit (records_later capture (D.told desk.old)) (lines_later script (D.told desk.old)) in
             IfErr result (NewFailed before (D.told desk.old) (D.told desk.new) ⊥) }
         ensures only { ReadsSources (D.told desk.old) (D.told desk.new) }
@@ -132,6 +141,11 @@ impl Progress {
         ensures looked { (left : Option (List ℕ))
             → let before = merged limit (records_later capture (D.told desk.old)) (lines_with_ahead script left) in
             OnOk result (IsLooked before) }
+        ensures script { IfOk result (λ progress. progress.script ≡ script) }
+        ensures took { IfOk result (λ progress. TookBoth (records_in capture)
+            (lines_held (script_reading State.Waiting script)) (reading progress) (D.told desk.old) (D.told desk.new)) }
+        ensures first { (lines : List ℕ → ℕ)
+            → IfErr result (FailsFirst (records_in capture) lines (D.told desk.old) (D.told desk.new)) }
         ensures err { (left : Option (List ℕ))
             → let before = merged limit (records_later capture (D.told desk.old)) (lines_with_ahead script left) in
             IfErr result (NewFailed before (D.told desk.old) (D.told desk.new) ⊥) }
@@ -183,6 +197,13 @@ impl Progress {
         ensures stays { result ≢ Ok true → ((reading self.new).given ≡ None)
             × (self.new.served ≡ self.old.served) }
 
+        ensures took { TookBoth (records_held self.old.capture.ports (reading self.old).capture)
+            (lines_held (reading self.old).script) (reading self.new) (D.told desk.old) (D.told desk.new) }
+        ensures behind { IfErr result (λ stop. ((reading self.old).stopped ≡ Some stop)
+            ⊎ FailsBehind (reading self.old).given stop) }
+        ensures looks { Touches (LooksAt (reading self.old).given) NoOutlet
+            (D.told desk.old) (D.told desk.new) }
+
         ensures unread_capture { self.old.capture.window.ended ≡ true → (self.new.capture.window.ended ≡ true)
             × ((D.told desk.new).left Input.Capture ≡ (D.told desk.old).left Input.Capture) }
         ensures unread_script { self.old.script.window.ended ≡ true → (self.new.script.window.ended ≡ true)
@@ -218,9 +239,11 @@ impl Progress {
             ≡ rest (reading self.old) ((D.told desk.old).left Input.Capture) left }
         ensures unread { self.old.capture.window.ended ≡ true → (self.new.capture.window.ended ≡ true)
             × (desk.new ≡ desk.old) }
+        ensures took { TookBoth (records_held self.old.capture.ports (reading self.old).capture)
+            (lines_held (reading self.old).script) (reading self.new) (D.told desk.old) (D.told desk.new) }
         ensures ok { OnOk result (self.new.state ≡ State.Waiting) }
         ensures err { IfErr result (λ stop. (self.new.state ≡ State.Stopped stop)
-            × (self.new.capture.ahead ≡ None)
+            × (ahead_of self.new.capture.ahead ≡ None)
             × FailedLook self.new.capture (D.told desk.old) (D.told desk.new) stop) }
         ensures only { OnlyReads Input.Capture (D.told desk.old) (D.told desk.new) }
     {
@@ -250,9 +273,11 @@ impl Progress {
             ≡ rest (reading self.old) left ((D.told desk.old).left Input.Script) }
         ensures unread { self.old.script.window.ended ≡ true → (self.new.script.window.ended ≡ true)
             × (desk.new ≡ desk.old) }
+        ensures took { TookBoth (records_held self.old.capture.ports (reading self.old).capture)
+            (lines_held (reading self.old).script) (reading self.new) (D.told desk.old) (D.told desk.new) }
         ensures ok { OnOk result (self.new.state ≡ State.Waiting) }
         ensures err { IfErr result (λ stop. (self.new.state ≡ State.Stopped stop)
-            × (self.new.script.ahead ≡ None)
+            × (line_of self.new.script.ahead ≡ None)
             × FailedLineLook self.new.script (D.told desk.old) (D.told desk.new) stop) }
         ensures only { OnlyReads Input.Script (D.told desk.old) (D.told desk.new) }
     {
@@ -284,13 +309,17 @@ impl Progress {
         ensures going { result ≡ Ok true → (reading self.new).stopped ≡ None }
         ensures order { result ≡ Ok true → IfSome (reading self.new).given
             (IsInOrder self.old.tick self.new.tick self.new.capture.ports) }
-        ensures end { result ≡ Ok false → (self.new ≡ self.old) × (self.old.capture.ahead ≡ None)
-            × (self.old.script.ahead ≡ None)
+        ensures end { result ≡ Ok false → (self.new ≡ self.old) × (ahead_of self.old.capture.ahead ≡ None)
+            × (line_of self.old.script.ahead ≡ None)
             × ShowsOver None (reading self.new) }
-        ensures none { self.old.capture.ahead ≡ None → self.old.script.ahead ≡ None → (result ≡ Ok false)
+        ensures none { ahead_of self.old.capture.ahead ≡ None → line_of self.old.script.ahead ≡ None
+            → (result ≡ Ok false)
             × (self.new ≡ self.old) }
         ensures rest { result ≢ Ok true → (capture script : Option (List ℕ))
             → rest (reading self.new) capture script ≡ rest (reading self.old) capture script }
+        ensures took { (told : Told)
+            → TookBoth (records_held self.old.capture.ports (reading self.old).capture)
+            (lines_held (reading self.old).script) (reading self.new) told told }
         ensures stop { IfErr result (λ stop. (stop ≡ Stop.TooLong)
             × (self.new ≡ record self.old { state = State.Stopped Stop.TooLong })
             × ShowsOver (Some Stop.TooLong) (reading self.new) × (self.old.served ≡ self.old.limit)) }
@@ -321,28 +350,14 @@ impl Progress {
         Ok(true)
     }
 
-    /// The event that was given.
-    pub fn event(&self) -> Event
+    /// The event that was given, which borrows what is long.
+    pub fn event(&self) -> Event<'_>
         requires given { IsSome (reading self.now).given }
         ensures { Some (seen result) ≡ (reading self.now).given }
     {
-        duplicate(self.event_ref())
-    }
-
-    /// The event that was given, lent.
-    pub fn event_ref(&self) -> &Event
-        requires given { IsSome (reading self.now).given }
-        ensures { Some (seen result.now) ≡ (reading self.now).given }
-    {
         match &self.state {
-            State::GivenRecord => match &self.capture.ahead {
-                Some(event) => event,
-                None => unreachable!(),
-            },
-            State::GivenLine => match &self.script.ahead {
-                Some(event) => event,
-                None => unreachable!(),
-            },
+            State::GivenRecord => self.capture.ahead.event(),
+            State::GivenLine => self.script.event(),
             State::Waiting => unreachable!(),
             State::Stopped(_) => unreachable!(),
         }

@@ -2,9 +2,10 @@
 ghost use Rattle.std.specs.Prelude.{◌≡◌, ◌≢◌, ◌⊎◌, ◌+◌, ◌≤◌, [], true, false, Some, None, Ok, Err};
 ghost use Rattle.std.specs.Prelude.{IsSome, IfOk, IfSome, IfErr, OnOk};
 ghost use Rattle.psd_base.specs.Event.{seen};
-ghost use Rattle.capture_reader.specs.Reader.{rest_told, GivesNext, IsAtEnd, IsOver, ShowsOver, StopsBecause, NewFailed, IsInOrder, IsLooked};
+ghost use Rattle.capture_reader.specs.Reader.{rest_told, records_held, lines_held, TookBoth, GivesNext, IsAtEnd, IsOver, ShowsOver, StopsBecause, NewFailed, IsInOrder, IsLooked};
 ghost use Rattle.capture_reader.specs.Merge.{schedule_told, port_count};
-ghost use Rattle.psd_base.specs.Desk.{ReadsSources};
+ghost use Rattle.capture_reader.specs.Taken.{whole_records, whole_lines, FailsFirst, FailsBehind, LooksAt};
+ghost use Rattle.psd_base.specs.Desk.{NoOutlet, ReadsSources, Touches};
 
 use crate::progress::Progress;
 use crate::window::Window;
@@ -49,6 +50,12 @@ impl Reader {
         ensures looked { OnOk result (IsLooked (schedule_told limit (D.told desk.old))) }
         ensures err { IfErr result (NewFailed (schedule_told limit (D.told desk.old))
             (D.told desk.old) (D.told desk.new) (desk.new ≡ desk.old)) }
+
+        // What was taken is held, and where a read failed nothing whole of its input was taken.
+        ensures took { IfOk result (λ reader. TookBoth whole_records whole_lines reader
+            (D.told desk.old) (D.told desk.new)) }
+        ensures first { IfErr result (FailsFirst whole_records whole_lines
+            (D.told desk.old) (D.told desk.new)) }
         ensures desk { ReadsSources (D.told desk.old) (D.told desk.new) }
     {
         match buffers(alloc) {
@@ -110,6 +117,13 @@ impl Reader {
             ≡ rest_told self.old (D.told desk.old) }
         ensures stays { result ≢ Ok true → (self.new.given ≡ None) × (self.new.served ≡ self.old.served) }
 
+        // What was taken is given or held. A read is tried in the source of the event before alone.
+        ensures took { TookBoth (records_held self.old.ports self.old.capture) (lines_held self.old.script)
+            self.new (D.told desk.old) (D.told desk.new) }
+        ensures behind { IfErr result (λ stop. (self.old.stopped ≡ Some stop)
+            ⊎ FailsBehind self.old.given stop) }
+        ensures looks { Touches (LooksAt self.old.given) NoOutlet (D.told desk.old) (D.told desk.new) }
+
         // Behind the end of a source it isn't read.
         ensures unread_capture { self.old.capture.held.ended ≡ true → (self.new.capture.held.ended ≡ true)
             × ((D.told desk.new).left Input.Capture ≡ (D.told desk.old).left Input.Capture) }
@@ -125,20 +139,12 @@ impl Reader {
         self.progress.advance(desk)
     }
 
-    /// The event that the last `advance` went on to.
-    pub fn event(&self) -> Event
+    /// The event that the last `advance` went on to. It borrows its act or its bytes from the reader.
+    pub fn event(&self) -> Event<'_>
         requires { IsSome self.now.given }
         ensures { Some (seen result) ≡ self.now.given }
     {
         self.progress.event()
-    }
-
-    /// The event that the last `advance` went on to, lent by the reader: a copy costs more than serving it.
-    pub fn event_ref(&self) -> &Event
-        requires { IsSome self.now.given }
-        ensures { Some (seen result.now) ≡ self.now.given }
-    {
-        self.progress.event_ref()
     }
 }
 

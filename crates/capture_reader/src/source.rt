@@ -1,8 +1,10 @@
 //! A capture as a source of events, read one record ahead.
-use crate::decode::{HEAD_SIZE, announce, read_event, read_head, read_header};
+use crate::ahead::Ahead;
+use crate::decode::{HEAD_SIZE, announce, read_head, read_header};
 use crate::form::{Form, Head};
+use crate::payload::read_record;
 use crate::window::{WINDOW_SIZE, Window};
-use psd_base::{CaptureFault, Desk, Event, Input, MAX_PORTS, Stop, Tick};
+use psd_base::{CaptureFault, Desk, Input, MAX_PORTS, Stop, Tick};
 
 /// A capture whose header was read, and the record that was read ahead.
 #[derive(Drop)]
@@ -13,30 +15,35 @@ pub struct CaptureSource {
     pub tick: Tick,
     /// Where the next record begins, in bytes from the capture's beginning.
     pub offset: u64,
-    pub ahead: Option<Event>,
+    pub ahead: Ahead,
 }
 
 impl CaptureSource {
     ghost use Rattle.std.specs.Prelude.{◌≡◌, ℕ, ◌+◌, ◌<◌, ◌≤◌, ◌^◌, List, [], length, drop, true, false, Some, None, Ok, Err, option_map};
     ghost use Rattle.std.specs.Prelude.{IfOk, IfErr, IfSome, IfNone, IsSomeAnd, OnOk, OnErr};
-    ghost use Rattle.psd_base.specs.Event.{seen};
+    ghost use Rattle.capture_reader.specs.Ahead.{ahead_of};
     ghost use Rattle.capture_reader.specs.Capture.{header, size_of, records};
     ghost use Rattle.capture_reader.specs.Schedule.{in_front};
-    ghost use Rattle.capture_reader.specs.Source.{later, records_later, after_ahead, AnnouncesNext, EndsNow, FailedLook, IsCaptureStop, IsNext, LookFailed, OpenFailed};
+    ghost use Rattle.capture_reader.specs.Source.{later, records_later, records_in, after_ahead, AnnouncesNext, EndsNow, FailedLook, IsCaptureStop, IsNext, LookFailed, OpenFailed};
     ghost use Rattle.psd_base.specs.Desk.{OnlyReads, Told};
-    ghost use Rattle.capture_reader.specs.Window.{coming, still};
+    ghost use Rattle.capture_reader.specs.Taken.{waiting, whole_records, whole_lines, Took, FailsFirst};
+    ghost use Rattle.capture_reader.specs.Window.{coming, still, HeldMore};
 
     /// Reads the header of a capture.
     pub fn open<D: Desk>(window: Window, desk: &mut D) -> Result<CaptureSource, Stop>
         requires { window ≡ record { bytes = []; ended = false } }
         ensures ports { IfOk result (λ source. (2 ≤ source.ports) × (source.ports ≤ MAX_PORTS)) }
         ensures begin { IfOk result (λ source. (source.tick ≡ 0) × (source.offset ≡ 8)
-            × (source.ahead ≡ None)) }
+            × (ahead_of source.ahead ≡ None)) }
         ensures header { IfOk result (λ source. IfSome ((D.told desk.old).left Input.Capture)
             (λ bytes. header bytes ≡ Ok source.ports)) }
         ensures records { IfOk result (λ source. option_map
             (λ bytes. records source.ports 0 8 0 (drop 8 bytes)) ((D.told desk.old).left Input.Capture)
             ≡ later source.ports 0 8 source.window ((D.told desk.new).left Input.Capture)) }
+        ensures took { IfOk result (λ source. Took whole_records (records_in source) false
+            ((D.told desk.old).left Input.Capture) ((D.told desk.new).left Input.Capture) 0) }
+        ensures first { IfErr result (FailsFirst whole_records whole_lines
+            (D.told desk.old) (D.told desk.new)) }
         ensures err { IfErr result (OpenFailed (D.told desk.old) (D.told desk.new)) }
         ensures only { OnlyReads Input.Capture (D.told desk.old) (D.told desk.new) }
     {
@@ -56,7 +63,7 @@ impl CaptureSource {
         requires { 8 ≤ length window.bytes }
         ensures ports { IfOk result (λ source. (2 ≤ source.ports) × (source.ports ≤ MAX_PORTS)) }
         ensures begin { IfOk result (λ source. (source.tick ≡ 0) × (source.offset ≡ 8)
-            × (source.ahead ≡ None)) }
+            × (ahead_of source.ahead ≡ None)) }
         ensures behind { IfOk result (λ source. (header window.bytes ≡ Ok source.ports)
             × (source.window ≡ record window { bytes = drop 8 window.bytes })) }
         ensures err { IfErr result (λ stop. (header window.bytes ≡ Err stop) × IsCaptureStop stop) }
@@ -70,7 +77,7 @@ impl CaptureSource {
                     ports,
                     tick: 0,
                     offset: HEAD_SIZE as u64,
-                    ahead: None,
+                    ahead: Ahead::new(),
                 })
             }
             Err(stop) => Err(stop),
@@ -78,6 +85,7 @@ impl CaptureSource {
     }
 
     /// Looks at the next record. Afterwards it is the one that was read ahead, or there is none at the end of the capture.
+    #[inline(always)]
     pub fn look<D: Desk>(&mut self, desk: &mut D) -> Result<(), Stop>
         requires ports { self.old.ports ≤ MAX_PORTS }
         requires offset { self.old.offset < 2 ^ 63 }
@@ -86,16 +94,19 @@ impl CaptureSource {
         ensures offset { self.new.offset ≤ self.old.offset + WINDOW_SIZE }
 
         ensures read { OnOk result (records_later self.old (D.told desk.old)
-            ≡ option_map (after_ahead (option_map seen self.new.ahead)) (records_later self.new (D.told desk.new))) }
-        ensures ahead { OnOk result (IfSome self.new.ahead (IsNext self.new)) }
-        ensures end { OnOk result (IfNone self.new.ahead (EndsNow self.new None)) }
+            ≡ option_map (after_ahead (ahead_of self.new.ahead)) (records_later self.new (D.told desk.new))) }
+        ensures ahead { OnOk result (IfSome (ahead_of self.new.ahead) (IsNext self.new)) }
+        ensures end { OnOk result (IfNone (ahead_of self.new.ahead) (EndsNow self.new None)) }
 
         ensures err { IfErr result (FailedLook self.new (D.told desk.old) (D.told desk.new)) }
         ensures stays { OnErr result (records_later self.new (D.told desk.new)
             ≡ records_later self.old (D.told desk.old)) }
         ensures unread { self.old.window.ended ≡ true → (self.new.window.ended ≡ true)
             × (desk.new ≡ desk.old) }
-        ensures none { OnErr result (self.new.ahead ≡ None) }
+        ensures none { OnErr result (ahead_of self.new.ahead ≡ None) }
+        ensures took { Took (records_in self.old) (records_in self.new) self.new.window.ended
+            ((D.told desk.old).left Input.Capture) ((D.told desk.new).left Input.Capture)
+            (waiting (ahead_of self.new.ahead)) }
 
         ensures only { OnlyReads Input.Capture (D.told desk.old) (D.told desk.new) }
     {
@@ -103,16 +114,16 @@ impl CaptureSource {
             Ok(true) => match self.look_at_head(desk) {
                 Ok(()) => Ok(()),
                 Err(stop) => {
-                    self.ahead = None;
+                    self.ahead.kept = None;
                     Err(stop)
                 }
             },
             Ok(false) => {
-                self.ahead = None;
+                self.ahead.kept = None;
                 self.end()
             }
             Err(_) => {
-                self.ahead = None;
+                self.ahead.kept = None;
                 Err(Stop::ReadFault(Input::Capture))
             }
         }
@@ -126,9 +137,13 @@ impl CaptureSource {
         ensures ports { self.new.ports ≡ self.old.ports }
         ensures tick { self.old.tick ≤ self.new.tick }
         ensures offset { self.new.offset ≤ self.old.offset + WINDOW_SIZE }
-        ensures ok { OnOk result (IsSomeAnd self.new.ahead (λ event. IsNext self.new event
+        ensures ok { OnOk result (IsSomeAnd (ahead_of self.new.ahead) (λ event. IsNext self.new event
             × (records_later self.old (D.told desk.old)
-            ≡ option_map (in_front (seen event)) (records_later self.new (D.told desk.new))))) }
+            ≡ option_map (in_front event) (records_later self.new (D.told desk.new))))) }
+        ensures took { OnOk result (Took (records_in self.old) (records_in self.new) self.new.window.ended
+            ((D.told desk.old).left Input.Capture) ((D.told desk.new).left Input.Capture) 1) }
+        ensures held { OnErr result (HeldMore self.old.window self.new.window
+            ((D.told desk.old).left Input.Capture) ((D.told desk.new).left Input.Capture)) }
         ensures err { IfErr result (LookFailed self.old.ports self.old.tick self.old.offset self.new.window
             (D.told desk.old) (D.told desk.new)) }
         ensures same { OnErr result (self.new ≡ record self.old { window = self.new.window }) }
@@ -157,9 +172,13 @@ impl CaptureSource {
         ensures ports { self.new.ports ≡ self.old.ports }
         ensures tick { self.old.tick ≤ self.new.tick }
         ensures offset { self.new.offset ≤ self.old.offset + WINDOW_SIZE }
-        ensures ok { OnOk result (IsSomeAnd self.new.ahead (λ event. IsNext self.new event
+        ensures ok { OnOk result (IsSomeAnd (ahead_of self.new.ahead) (λ event. IsNext self.new event
             × (records_later self.old (D.told desk.old)
-            ≡ option_map (in_front (seen event)) (records_later self.new (D.told desk.new))))) }
+            ≡ option_map (in_front event) (records_later self.new (D.told desk.new))))) }
+        ensures took { OnOk result (Took (records_in self.old) (records_in self.new) self.new.window.ended
+            ((D.told desk.old).left Input.Capture) ((D.told desk.new).left Input.Capture) 1) }
+        ensures held { OnErr result (HeldMore self.old.window self.new.window
+            ((D.told desk.old).left Input.Capture) ((D.told desk.new).left Input.Capture)) }
         ensures err { IfErr result (LookFailed self.old.ports self.old.tick self.old.offset self.new.window
             (D.told desk.old) (D.told desk.new)) }
         ensures same { OnErr result (self.new ≡ record self.old { window = self.new.window }) }
@@ -209,16 +228,16 @@ impl CaptureSource {
         ensures window { self.new.window.ended ≡ self.old.window.ended }
         ensures tick { OnOk result (self.new.tick ≡ head.now.tick) }
         ensures offset { OnOk result (self.new.offset ≡ self.old.offset + size_of head.now) }
-        ensures ahead { OnOk result (IsSomeAnd self.new.ahead (λ event. IsNext self.new event
+        ensures ahead { OnOk result (IsSomeAnd (ahead_of self.new.ahead) (λ event. IsNext self.new event
             × ((left : List ℕ) → records self.old.ports self.old.tick self.old.offset 0 (coming self.old.window left)
-            ≡ in_front (seen event) (records self.new.ports self.new.tick self.new.offset 0 (coming self.new.window left))))) }
+            ≡ in_front event (records self.new.ports self.new.tick self.new.offset 0 (coming self.new.window left))))) }
         ensures err { (before after : Told) → IfErr result
             (LookFailed self.old.ports self.old.tick self.old.offset self.new.window before after) }
         ensures same { OnErr result (self.new ≡ self.old) }
     {
         let size = HEAD_SIZE + head.length as usize;
         let payload = &self.window.bytes()[HEAD_SIZE..size];
-        match read_event(head.tick, form, payload, &mut self.ahead) {
+        match read_record(head.tick, form, payload, &mut self.ahead) {
             Ok(()) => {
                 self.window.drop_front(size);
                 self.offset += size as u64;

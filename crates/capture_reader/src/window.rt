@@ -2,7 +2,7 @@
 ghost use Rattle.std.specs.Prelude.{◌≡◌, ◌⊎◌, ◌+◌, ◌-◌, ◌<◌, ◌≤◌, List, [], ◌++◌, length, take, drop, true, false, option_map, Ok, IfOk, IfSome, IfNone, OnOk, OnErr, position, slice_range};
 ghost use Rattle.psd_base.specs.Desk.{OnlyReads, ReadFailed};
 ghost use Rattle.capture_reader.specs.Script.{is_line_feed};
-ghost use Rattle.capture_reader.specs.Window.{Held, still, Begins, FrontLine, HasNoLine};
+ghost use Rattle.capture_reader.specs.Window.{Held, still, Begins, FrontLine, HasNoLine, HeldMore};
 
 use crate::line::LINE_MAX;
 use psd_base::{Desk, DeskFailed, Input};
@@ -91,10 +91,13 @@ impl Window {
         requires { count ≤ WINDOW_SIZE }
         ensures still { still self.new ((D.told desk.new).left from)
             ≡ still self.old ((D.told desk.old).left from) }
+        ensures took { HeldMore self.old self.new
+            ((D.told desk.old).left from) ((D.told desk.new).left from) }
         ensures front { Begins self.old.bytes self.new.bytes }
         ensures held { result ≡ Ok true → count ≤ length self.new.bytes }
         ensures ended { result ≡ Ok false → (self.new.ended ≡ true) × (length self.new.bytes < count) }
         ensures short { OnErr result (length self.new.bytes < count) }
+        ensures open { OnErr result (self.new.ended ≡ false) }
         ensures unread { self.old.ended ≡ true → (self.new ≡ self.old) × (desk.new ≡ desk.old) }
         ensures failed { OnErr result (ReadFailed from (D.told desk.old) (D.told desk.new)) }
         ensures only { OnlyReads from (D.told desk.old) (D.told desk.new) }
@@ -113,8 +116,11 @@ impl Window {
     pub fn hold_line<D: Desk>(&mut self, desk: &mut D, from: Input) -> Result<usize, DeskFailed>
         ensures still { still self.new ((D.told desk.new).left from)
             ≡ still self.old ((D.told desk.old).left from) }
+        ensures took { HeldMore self.old self.new
+            ((D.told desk.old).left from) ((D.told desk.new).left from) }
         ensures line { IfOk result (FrontLine self.new) }
         ensures part { OnErr result (HasNoLine self.new.bytes) }
+        ensures open { OnErr result (self.new.ended ≡ false) }
         ensures unread { self.old.ended ≡ true → (self.new ≡ self.old) × (desk.new ≡ desk.old) }
         ensures failed { OnErr result (ReadFailed from (D.told desk.old) (D.told desk.new)) }
         ensures only { OnlyReads from (D.told desk.old) (D.told desk.new) }
@@ -144,6 +150,8 @@ impl Window {
         requires open { self.old.ended ≡ false }
         ensures still { still self.new ((D.told desk.new).left from)
             ≡ still self.old ((D.told desk.old).left from) }
+        ensures took { HeldMore self.old self.new
+            ((D.told desk.old).left from) ((D.told desk.new).left from) }
         ensures front { Begins self.old.bytes self.new.bytes }
         ensures more { OnOk result (self.new.ended ≡ false → length self.old.bytes < length self.new.bytes) }
         ensures same { OnErr result (self.new ≡ self.old) }

@@ -1,6 +1,6 @@
 -- The lives of a peripheral, by the calls that were made, newest first: which replies count, what is given up, and which
 -- descriptors were accepted.
-use Rattle.std.specs.Prelude.{ℕ, ◌+◌, ◌==◌, nat_le, Bool, true, false, not, ◌&&◌, List, [], ◌∷◌, length, Option, Some, None, if◌then◌else◌}
+use Rattle.std.specs.Prelude.{ℕ, ◌+◌, ◌==◌, nat_le, Bool, true, false, not, ◌&&◌, List, [], ◌∷◌, length, position, Option, Some, None, if◌then◌else◌}
 use Rattle.std.specs.Option.{option_map}
 use Rattle.std.specs.List.{find}
 use Rattle.psd_base.specs.History.{or_else}
@@ -130,9 +130,17 @@ abbrev pub accepted_of : Plug → Option Life → List Interface
 accepted_of plug None = []
 accepted_of plug (Some life) = accepted_in plug life.replies
 
+-- the place of the first interface of this number among the accepted ones
+abbrev pub place_in : ℕ → List Interface → Option ℕ
+place_in number accepted = position (λ interface. interface.number == number) accepted
+
 -- the layout of an accepted interface of this number
 abbrev pub layout_in : ℕ → List Interface → Option LayoutValue
 layout_in number accepted = elim (find (λ interface. interface.number == number) accepted) [ None ↦ None | Some interface ↦ interface.layout ]
+
+abbrev pub is_ready_in : Plug → RuleSet → Option Life → Bool
+is_ready_in plug rules None = false
+is_ready_in plug rules (Some life) = is_ready (plan_of plug rules life)
 
 -- the shape of a peripheral that is ready
 abbrev pub shape_of_life : Plug → RuleSet → Option Life → Option Shape

@@ -1,5 +1,5 @@
 //! The enumeration of one peripheral.
-ghost use Rattle.std.specs.Prelude.{◌≡◌, ◌+◌, ◌≤◌, ◌++◌, List, [], ◌∷◌, length, IfSome, IsTrue, MatchOption, option_copied};
+ghost use Rattle.std.specs.Prelude.{◌≡◌, ◌+◌, ◌<◌, ◌≤◌, ◌++◌, List, [], ◌∷◌, length, IfSome, IsTrue, MatchOption, option_copied};
 ghost use Rattle.peripheral_filter.specs.Steps.{is_packet_size};
 ghost use Rattle.psd_base.specs.declared.console.Plug.{Plug};
 ghost use Rattle.peripheral_filter.specs.declared.rule.RuleSet.{RuleSet};
@@ -12,14 +12,14 @@ ghost use Rattle.console_host.specs.Replies.{reply_of};
 ghost use Rattle.console_host.specs.Fits.{misfits, barring_rules};
 ghost use Rattle.console_host.specs.Judging.{least_from};
 ghost use Rattle.console_host.specs.Plan.{is_none};
-ghost use Rattle.console_host.specs.Lives.{Call, Began, Replied, Ticked, LifeDropped, Detached, standing, next_in, notes_in, is_silent_in, accepted_of, layout_in, shape_of_life};
+ghost use Rattle.console_host.specs.Lives.{Call, Began, Replied, Ticked, LifeDropped, Detached, standing, next_in, notes_in, is_silent_in, accepted_of, is_ready_in, layout_in, place_in, shape_of_life};
 
 use crate::configuration::{judge_configuration, shape_of, sort_interfaces};
 use crate::descriptors::{DEVICE_SIZE, Descriptors, Shape};
 use crate::device::judge_device;
 use crate::fit::{Fits, INTERFACES_MAX, ReportAsk, ask_after, least_barred, note_barred};
 use crate::head::judge_head;
-use crate::interface::{Interface, layout_of};
+use crate::interface::{Interface, layout_of, place_of};
 use crate::next::{Next, SILENCE};
 use crate::order::CONFIGURE;
 use crate::packet_size::PacketSize;
@@ -164,6 +164,31 @@ impl Attachment {
             → option_copied result ≡ layout_in interface (accepted_of plug (standing plug rules past).life) }
     {
         layout_of(self.accepted.as_slice(), interface)
+    }
+
+    /// The place of an interface of this number among those that are accepted in the present life, in the
+    /// configuration's order.
+    pub fn place(&self, interface: u8) -> Option<usize>
+        ensures place { (plug : Plug) (rules : RuleSet) (past : List Call)
+            → AttachmentStands plug rules self.now past
+            → result ≡ place_in interface (accepted_of plug (standing plug rules past).life) }
+        ensures within { IfSome result (λ place. place < INTERFACES_MAX) }
+    {
+        place_of(self.accepted.as_slice(), interface)
+    }
+
+    /// Whether the present life is ready.
+    pub fn is_ready(&self) -> bool
+        ensures { (plug : Plug) (rules : RuleSet) (past : List Call)
+            → AttachmentStands plug rules self.now past
+            → result ≡ is_ready_in plug rules (standing plug rules past).life }
+    {
+        match self.phase {
+            Phase::Vacant => false,
+            Phase::Asking { .. } => false,
+            Phase::Ready => true,
+            Phase::Ended => false,
+        }
     }
 
     /// The device descriptor and the configuration of the first life since the attachment that became ready.

@@ -1,6 +1,6 @@
 //! The accepted interfaces.
-ghost use Rattle.std.specs.Prelude.{◌≡◌, option_copied};
-ghost use Rattle.console_host.specs.Lives.{layout_in};
+ghost use Rattle.std.specs.Prelude.{◌≡◌, ◌<◌, length, option_copied, IfSome};
+ghost use Rattle.console_host.specs.Lives.{layout_in, place_in};
 
 use hid_report::Layout;
 
@@ -11,6 +11,16 @@ pub struct Interface {
     pub number: u8,
     /// The layout of its reports.
     pub layout: Option<Layout>,
+}
+
+/// The place of the first interface of this number.
+pub fn place_of(interfaces: &[Interface], number: u8) -> Option<usize>
+    ensures place { result ≡ place_in number interfaces.now }
+    ensures within { IfSome result (λ place. place < length interfaces.now) }
+{
+    interfaces
+        .iter()
+        .position(|interface| interface.number == number)
 }
 
 /// The layout of the first interface of this number.

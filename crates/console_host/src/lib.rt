@@ -23,4 +23,6 @@ mod total;
 
 pub use attachment::Attachment;
 pub use descriptors::Shape;
+pub use fit::INTERFACES_MAX;
 pub use next::{Next, SILENCE};
+pub use rules::SILENT;

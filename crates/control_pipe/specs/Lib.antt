@@ -1,4 +1,6 @@
 pub mod Control
+pub mod HidRequests
+pub mod HidSettings
 pub mod Lending
 pub mod PipeStands
 pub mod PipeStep

@@ -51,3 +51,22 @@ pub const CONFIGURATION_DESCRIPTOR: u16 = 0x0200;
 pub const HID_DESCRIPTOR: u16 = 0x2100;
 
 pub const REPORT_DESCRIPTOR: u16 = 0x2200;
+
+// The class requests of a HID interface (HID 1.11, table 7.2).
+pub const GET_REPORT: u8 = 0x01;
+
+pub const GET_IDLE: u8 = 0x02;
+
+pub const GET_PROTOCOL: u8 = 0x03;
+
+pub const SET_REPORT: u8 = 0x09;
+
+pub const SET_IDLE: u8 = 0x0a;
+
+pub const SET_PROTOCOL: u8 = 0x0b;
+
+// The values of GET_REPORT and SET_REPORT: the report's kind in the high byte (HID 1.11, 7.2.1), and in the low one its
+// identifier, which is 0.
+pub const INPUT_REPORT: u16 = 0x0100;
+
+pub const OUTPUT_REPORT: u16 = 0x0200;

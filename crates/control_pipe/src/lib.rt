@@ -3,6 +3,8 @@
 
 pub mod codes;
 pub mod function;
+pub mod hid_request;
+pub mod hid_settings;
 pub mod pipe;
 pub mod reaction;
 mod registers;
@@ -10,5 +12,7 @@ mod request;
 mod transfer;
 
 pub use function::Function;
+pub use hid_request::{HidRequest, Protocol};
+pub use hid_settings::HidSettings;
 pub use pipe::Pipe;
 pub use reaction::{Effect, Reaction};

@@ -6,8 +6,9 @@ use Rattle.psd_base.specs.declared.act.Answer.TheVariants.{Nak, Data}
 use Rattle.input_latch.specs.declared.key_latch.KeyChange.{KeyChange}
 use Rattle.input_latch.specs.declared.key_latch.KeyChange.TheVariants.{Press, Release}
 use Rattle.input_latch.specs.KeyHistory.{held_from}
+use Rattle.control_pipe.specs.declared.hid_request.HidRequest.TheVariants.{SetIdle}
 use Rattle.emulated_keyboard.specs.Report.{filled, key_report}
-use Rattle.emulated_keyboard.specs.KeyboardHistory.{KeyboardEntry, Entered, Parted, Reset, Configured, IdleSet, Polled, PolledApart, given_at, given_apart, toggle_of, last_made, answer_of}
+use Rattle.emulated_keyboard.specs.KeyboardHistory.{KeyboardEntry, Entered, Parted, Reset, Configured, Requested, Polled, PolledApart, given_at, given_apart, toggle_of, last_made, answer_of}
 
 -- a poll at a tick while the latch has this change next, or one while the port isn't selected
 abbrev polled : ℕ → Option KeyChange → Bool → List KeyboardEntry → List KeyboardEntry
@@ -71,7 +72,7 @@ in_one_report = refl
 
 -- idle rate 25, set at 130: the report with nothing pressed at 230 and not before, then 100 ticks after it is read
 abbrev rated : List KeyboardEntry
-rated = IdleSet 130 25 ∷ selected
+rated = Requested 130 (SetIdle 25) [] ∷ selected
 
 not_yet : answered 229 None rated ≡ Nak
 unfolding no_keys keys_from held_from filled key_report
@@ -89,6 +90,6 @@ its_time_again : answered 331 None (polled 231 None true (polled 230 None false 
 unfolding no_keys keys_from held_from filled key_report
 its_time_again = refl
 
-never : answered 100000 None (IdleSet 130 0 ∷ selected) ≡ Nak
+never : answered 100000 None (Requested 130 (SetIdle 0) [] ∷ selected) ≡ Nak
 unfolding no_keys keys_from held_from filled key_report
 never = refl

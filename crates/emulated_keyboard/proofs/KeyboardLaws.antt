@@ -9,18 +9,18 @@ use Rattle.input_latch.specs.KeyHistory.{held_with, held_from, held_after}
 use Rattle.input_latch.proofs.KeyLatchLaws.{held_from-append}
 use Rattle.emulated_keyboard.specs.declared.given.Given.{Given}
 use Rattle.emulated_keyboard.specs.declared.given.Given.TheVariants.{Again, Due, Next, Repeated, Nothing}
-use Rattle.emulated_keyboard.specs.KeyboardHistory.{KeyboardEntry, Entered, Configured, Polled, PolledApart, is_report, shown, shown_by, last_made, made_by, is_open, open_after, was_left, left_after, is_due, toggled, is_idle, is_entered, given_apart, given_next, given_at}
+use Rattle.emulated_keyboard.specs.KeyboardHistory.{KeyboardEntry, Entered, Configured, Polled, PolledApart, is_report, shown, shown_by, last_made, made_by, is_unread, unread_after, was_left, left_after, is_due, toggled, is_idle, is_entered, given_apart, given_next, given_at}
 use Rattle.emulated_keyboard.specs.KeyboardStands.{KeyboardValue, KeyboardStands}
 use Rattle.emulated_keyboard.specs.KeyboardSteps.{IsPassedOn, case_apart, case_of, made_keys, given_step}
 
 -- a set with nothing pressed isn't due
-nothing_due : (left : Bool) (keys : List Bool) → left ≡ true → (left && not (has_no_key keys)) ≡ false → has_no_key keys ≡ true
+pub nothing_due : (left : Bool) (keys : List Bool) → left ≡ true → (left && not (has_no_key keys)) ≡ false → has_no_key keys ≡ true
 nothing_due left keys is none = by (has_no_key keys) refl where
   by : (b : Bool) → has_no_key keys ≡ b → has_no_key keys ≡ true
   by true e = e
   by false e = absurd (false≢true (sym (rw (is, e) at none)))
 
-cases_Bool : (b : Bool) (P : Type 0) → (b ≡ true → P) → (b ≡ false → P) → P
+pub cases_Bool : (b : Bool) (P : Type 0) → (b ≡ true → P) → (b ≡ false → P) → P
 cases_Bool true P t f = t refl
 cases_Bool false P t f = f refl
 
@@ -29,10 +29,11 @@ module _ (keyboard : KeyboardValue) (past : List KeyboardEntry) (stands : Keyboa
   unfolding held_from
   stands_entered tick apart = record {
     last = stands.last;
-    open_report = stands.open_report;
+    unread = stands.unread;
     left = stands.left;
     toggle = stands.toggle;
-    rate = stands.rate;
+    set = stands.set;
+    lit = stands.lit;
     since = refl;
     entered = refl;
     form = stands.form;
@@ -44,14 +45,15 @@ module _ (keyboard : KeyboardValue) (past : List KeyboardEntry) (stands : Keyboa
     apart = λ out. absurd (false≢true (sym out));
   }
 
-  pub stands_configured : KeyboardStands (record keyboard { last = no_keys; open_report = false; toggle = false }) (Configured ∷ past)
+  pub stands_configured : KeyboardStands (record keyboard { last = no_keys; unread = false; toggle = false }) (Configured ∷ past)
   unfolding held_from
   stands_configured = record {
     last = refl;
-    open_report = refl;
+    unread = refl;
     left = stands.left;
     toggle = refl;
-    rate = stands.rate;
+    set = stands.set;
+    lit = stands.lit;
     since = stands.since;
     entered = stands.entered;
     form = no_keys-form;
@@ -68,12 +70,12 @@ shows_span (Next change) = true
 shows_span Repeated = true
 shows_span Nothing = false
 
-pub not_due : (open_report due : Bool) (rest : Given) → shows_span (if open_report then Again else if due then Due else rest) ≡ true → due ≡ false
+pub not_due : (unread due : Bool) (rest : Given) → shows_span (if unread then Again else if due then Due else rest) ≡ true → due ≡ false
 not_due true due rest is = absurd (cc)
 not_due false true rest is = absurd (cc)
 not_due false false rest is = refl
 
-pub not_shown : (open_report due : Bool) → shows_span (if open_report then Again else if due then Due else Nothing) ≡ false
+pub not_shown : (unread due : Bool) → shows_span (if unread then Again else if due then Due else Nothing) ≡ false
 not_shown true due = refl
 not_shown false true = refl
 not_shown false false = refl
@@ -86,7 +88,7 @@ is_release (Next change) = false
 is_release Repeated = false
 is_release Nothing = false
 
-was_due : (open_report due : Bool) (rest : Given) → is_release rest ≡ false → is_release (if open_report then Again else if due then Due else rest) ≡ true → due ≡ true
+was_due : (unread due : Bool) (rest : Given) → is_release rest ≡ false → is_release (if unread then Again else if due then Due else rest) ≡ true → due ≡ true
 was_due true due rest other is = absurd (cc)
 was_due false true rest other is = refl
 was_due false false rest other is = absurd (false≢true (sym other ∙ is))
@@ -101,7 +103,7 @@ no_release (Some change) tick past = refl
 pub left_where_due : (next : Option KeyChange) (tick : ℕ) (past : List KeyboardEntry) (given : Given) → given ≡ given_at next tick past → given ≡ Due → was_left past ≡ true
 left_where_due next tick past given is due =
     (and_parts (was_left past) (not (has_no_key (last_made past)))
-    (was_due (is_open past) (is_due past) (given_next next tick past) (no_release next tick past) (ap (λ (g : Given). is_release g) (sym is ∙ due)))).0
+    (was_due (is_unread past) (is_due past) (given_next next tick past) (no_release next tick past) (ap (λ (g : Given). is_release g) (sym is ∙ due)))).0
 
 if_same : (b : Bool) (n : ℕ) → (if b then n else n) ≡ n
 if_same true n = refl
@@ -115,11 +117,11 @@ held_with-form keys (Release usage) form passed = without_key-form keys usage fo
 module _ (keyboard : KeyboardValue) (past : List KeyboardEntry) (stands : KeyboardStands keyboard past) where
   -- the case by the value is that by the history
   pub case_of-is : (next : Option KeyChange) (tick : ℕ) → case_of keyboard tick next ≡ given_at next tick past
-  case_of-is None tick = rw (stands.open_report, stands.left, stands.last, stands.rate, stands.since) refl
-  case_of-is (Some change) tick = rw (stands.open_report, stands.left, stands.last) refl
+  case_of-is None tick = rw (stands.unread, stands.left, stands.last, stands.set, stands.since) refl
+  case_of-is (Some change) tick = rw (stands.unread, stands.left, stands.last) refl
 
   pub case_apart-is : case_apart keyboard ≡ given_apart past
-  case_apart-is = rw (stands.open_report, stands.left, stands.last) refl
+  case_apart-is = rw (stands.unread, stands.left, stands.last) refl
 
   pub same_made : (given : Given) → is_entered past ≡ true → (shows_span given ≡ true → is_due past ≡ false) → made_keys given keyboard.last ≡ made_by given (shown past) (last_made past)
   same_made Again entered ready = stands.last
@@ -159,10 +161,11 @@ module _ (keyboard : KeyboardValue) (past : List KeyboardEntry) (stands : Keyboa
       → KeyboardStands (given_step given acked tick keyboard) (Polled tick given acked ∷ past)
   stands_polled given tick acked entered ready left passed = record {
     last = same_made given entered ready;
-    open_report = ap (λ (b : Bool). open_after given acked b) stands.open_report;
+    unread = ap (λ (b : Bool). unread_after given acked b) stands.unread;
     left = ap (λ (b : Bool). left_after given b) stands.left;
     toggle = ap (λ (b : Bool). toggled given acked b) stands.toggle;
-    rate = stands.rate;
+    set = stands.set;
+    lit = stands.lit;
     since = ap (λ (since : ℕ). if is_report given && acked then tick else since) stands.since;
     entered = stands.entered;
     form = made_form given entered ready passed;
@@ -196,10 +199,11 @@ module _ (keyboard : KeyboardValue) (past : List KeyboardEntry) (stands : Keyboa
       → KeyboardStands (given_step given acked keyboard.idle_since keyboard) (PolledApart given acked ∷ past)
   stands_polled_apart given acked out other = record {
     last = apart_made given other;
-    open_report = ap (λ (b : Bool). open_after given acked b) stands.open_report;
+    unread = ap (λ (b : Bool). unread_after given acked b) stands.unread;
     left = ap (λ (b : Bool). left_after given b) stands.left;
     toggle = ap (λ (b : Bool). toggled given acked b) stands.toggle;
-    rate = stands.rate;
+    set = stands.set;
+    lit = stands.lit;
     since = if_same (is_report given && acked) keyboard.idle_since ∙ stands.since;
     entered = stands.entered;
     form = apart_form given other;

@@ -1,26 +1,29 @@
 -- The value of an emulated keyboard, and of which histories it is the result.
 use Rattle.std.specs.Prelude.{◌≡◌, ℕ, Bool, true, false, List, []}
 use Rattle.psd_base.specs.KeySet.{no_keys, IsKeySet}
+use Rattle.control_pipe.specs.declared.hid_settings.HidSettings.{HidSettings}
 use Rattle.input_latch.specs.KeyHistory.{held_after}
-use Rattle.emulated_keyboard.specs.KeyboardHistory.{KeyboardEntry, shown, last_made, is_open, was_left, is_due, toggle_of, idle_rate, idle_since, is_entered}
+use Rattle.emulated_keyboard.specs.KeyboardHistory.{KeyboardEntry, shown, last_made, is_unread, was_left, is_due, toggle_of, settings, lamps, idle_since, is_entered}
 
 -- the keys of the report that was made last, whether it is unacknowledged, whether the port was left since, the toggle,
--- the idle rate with the tick from which it counts, and whether the port is selected
+-- what the host set, the tick from which the idle rate counts, and whether the port is selected
 pub record KeyboardValue : Type 0 where
   pub last : List Bool
-  pub open_report : Bool
+  pub unread : Bool
   pub left : Bool
   pub toggle : Bool
-  pub idle_rate : ℕ
+  pub settings : HidSettings
+  pub lamps : ℕ
   pub idle_since : ℕ
   pub entered : Bool
 
 pub record KeyboardStands (keyboard : KeyboardValue) (past : List KeyboardEntry) : Type 0 where
   pub last : keyboard.last ≡ last_made past
-  pub open_report : keyboard.open_report ≡ is_open past
+  pub unread : keyboard.unread ≡ is_unread past
   pub left : keyboard.left ≡ was_left past
   pub toggle : keyboard.toggle ≡ toggle_of past
-  pub rate : keyboard.idle_rate ≡ idle_rate past
+  pub set : keyboard.settings ≡ settings past
+  pub lit : keyboard.lamps ≡ lamps past
   pub since : keyboard.idle_since ≡ idle_since past
   pub entered : keyboard.entered ≡ is_entered past
   pub form : IsKeySet (last_made past)

@@ -1,4 +1,7 @@
+pub mod ClassRequests
 pub mod Delivery
+pub mod Descriptors
+pub mod HostReading
 pub mod KeyboardHistory
 pub mod KeyboardStands
 pub mod KeyboardSteps

@@ -1,15 +1,17 @@
-//! The emulated keyboard: what each poll of its endpoint is answered (HID 1.11, 7.2.4; USB 2.0, 8.5.4).
+//! The emulated keyboard: what each poll of its endpoint is answered, and its class requests (HID 1.11, 7.2; USB 2.0,
+//! 8.5.4).
 ghost use Rattle.std.specs.Prelude.{◌≡◌, ℕ, Bool, true, false, List, [], ◌∷◌, IsTrue, ◌&&◌, not};
 ghost use Rattle.psd_base.specs.KeySet.{is_passed_on, has_no_key};
 ghost use Rattle.input_latch.specs.KeyHistory.{KeyEntry, next_change, held_with};
 ghost use Rattle.input_latch.specs.KeyLatchStands.{KeyLatchStands};
-ghost use Rattle.emulated_keyboard.specs.KeyboardHistory.{KeyboardEntry, Entered, Parted, Reset, Configured, Restarted, IdleSet, Polled, PolledApart, idle_rate, given_at, given_apart, last_made, toggle_of, answer_of};
+ghost use Rattle.emulated_keyboard.specs.KeyboardHistory.{KeyboardEntry, Entered, Parted, Reset, Configured, Restarted, Requested, Polled, PolledApart, given_at, given_apart, last_made, toggle_of, is_entered, answer_of, lamps_in, read_answer};
 ghost use Rattle.input_latch.specs.PassedKeys.{usage_of};
 ghost use Rattle.emulated_keyboard.specs.LatchCalls.{latch_after};
 ghost use Rattle.emulated_keyboard.specs.Report.{key_report};
 
 use crate::given::Given;
 use crate::report::report_of;
+use control_pipe::{HidRequest, HidSettings};
 use input_latch::{KeyChange, KeyLatch};
 use psd_base::event::Tick;
 use psd_base::{Answer, KeySet, Packet};
@@ -18,18 +20,27 @@ use std::marker::Model;
 /// The idle rate after a bus reset, in units of 4 milliseconds (HID 1.11, 7.2.4).
 pub const IDLE_RATE: u8 = 125;
 
+/// The number of the keyboard's interface.
+pub const INTERFACE: u16 = 0;
+
+/// The output report's lamps are its bits below this one: NUM LOCK, CAPS LOCK, SCROLL LOCK, COMPOSE and KANA (HID 1.11,
+/// appendix B.1).
+pub const LAMPS: u8 = 32;
+
 /// An emulated keyboard. It is entered while its port is selected.
 #[derive(Drop)]
 pub struct Keyboard {
     /// The keys of the report that was made last.
     last: KeySet,
-    /// Whether that report isn't acknowledged.
-    open: bool,
+    /// Whether the host hasn't acknowledged that report.
+    unread: bool,
     /// Whether the port was left since that report was made.
     left: bool,
     /// The toggle of the next report: true is DATA1.
     toggle: bool,
-    idle_rate: u8,
+    settings: HidSettings,
+    lamps: u8,
+    /// The tick from which the idle rate counts.
     idle_since: Tick,
     entered: bool,
 }
@@ -41,10 +52,11 @@ impl Model for Keyboard {
 
     ghost view = { λ keyboard. record {
       last = keyboard.last;
-      open_report = keyboard.open;
+      unread = keyboard.unread;
       left = keyboard.left;
       toggle = keyboard.toggle;
-      idle_rate = keyboard.idle_rate;
+      settings = keyboard.settings;
+      lamps = keyboard.lamps;
       idle_since = keyboard.idle_since;
       entered = keyboard.entered;
     } };
@@ -52,7 +64,7 @@ impl Model for Keyboard {
 
 impl Keyboard {
     ghost use Rattle.emulated_keyboard.specs.KeyboardStands.{KeyboardStands};
-    ghost use Rattle.emulated_keyboard.specs.KeyboardSteps.{IsPassedOn, case_of, case_apart, is_time, given_step, sent_step, made_keys};
+    ghost use Rattle.emulated_keyboard.specs.KeyboardSteps.{IsPassedOn, case_of, case_apart, is_time, given_step, sent_step, made_keys, requested_step, value_answer};
 
     /// A keyboard that isn't entered, with nothing pressed.
     pub fn new() -> Keyboard
@@ -60,13 +72,22 @@ impl Keyboard {
     {
         Keyboard {
             last: KeySet::new(),
-            open: false,
+            unread: false,
             left: false,
             toggle: false,
-            idle_rate: IDLE_RATE,
+            settings: HidSettings::new(IDLE_RATE),
+            lamps: 0,
             idle_since: 0,
             entered: false,
         }
+    }
+
+    /// Whether the port is selected.
+    pub fn is_entered(&self) -> bool
+        ensures value { result ≡ self.now.entered }
+        ensures answer { (past : List KeyboardEntry) → KeyboardStands self.now past → result ≡ is_entered past }
+    {
+        self.entered
     }
 
     /// The port is selected at this tick.
@@ -89,23 +110,26 @@ impl Keyboard {
         self.left = true;
     }
 
-    /// The bus was reset at this tick: the report that wasn't acknowledged and a release that is due are dropped.
+    /// The bus was reset at this tick: the report that wasn't acknowledged and a release that is due are dropped, the idle
+    /// rate is `IDLE_RATE` again, the protocol that of the report descriptor, and no lamp is on.
     pub fn reset(&mut self, tick: Tick)
         ensures { (past : List KeyboardEntry) → KeyboardStands self.old past
             → KeyboardStands self.new (Reset tick ∷ past) }
     {
         self.configured();
-        self.idle_rate = IDLE_RATE;
+        self.settings = HidSettings::new(IDLE_RATE);
+        self.lamps = 0;
         self.idle_since = tick;
     }
 
-    /// SET_CONFIGURATION was completed (USB 2.0, 9.4.7), which drops the same and restarts the toggle.
+    /// SET_CONFIGURATION was completed (USB 2.0, 9.4.7), which drops both reports and restarts the toggle. What class
+    /// requests set stays.
     pub fn configured(&mut self)
         ensures { (past : List KeyboardEntry) → KeyboardStands self.old past
             → KeyboardStands self.new (Configured ∷ past) }
     {
         self.last = KeySet::new();
-        self.open = false;
+        self.unread = false;
         self.toggle = false;
     }
 
@@ -117,29 +141,44 @@ impl Keyboard {
         self.toggle = false;
     }
 
-    /// SET_IDLE was completed at this tick (HID 1.11, 7.2.4): the rate is in units of 4 milliseconds, and 0 is never.
-    pub fn set_idle(&mut self, tick: Tick, rate: u8)
-        ensures { (past : List KeyboardEntry) → KeyboardStands self.old past
-            → KeyboardStands self.new (IdleSet tick rate ∷ past) }
+    /// Carries out a class request that was completed at this tick, with the bytes that the host sent. The idle rate
+    /// counts from here where the request sets it.
+    pub fn carry_out(&mut self, tick: Tick, request: HidRequest, bytes: &[u8])
+        ensures step { self.new ≡ requested_step tick request bytes.now self.old }
+        ensures stands { (past : List KeyboardEntry) → KeyboardStands self.old past
+            → KeyboardStands self.new (Requested tick request bytes.now ∷ past) }
     {
-        self.idle_rate = rate;
-        self.idle_since = tick;
+        match request {
+            HidRequest::GetInput => {}
+            HidRequest::GetOutput => {}
+            HidRequest::GetIdle => {}
+            HidRequest::GetProtocol => {}
+            HidRequest::SetOutput => self.lamps = lamps_in(bytes, self.lamps),
+            HidRequest::SetIdle(_) => {
+                self.settings.carry_out(request);
+                self.idle_since = tick;
+            }
+            HidRequest::SetProtocol(_) => self.settings.carry_out(request),
+        }
     }
 
-    /// The idle rate, in units of 4 milliseconds.
-    pub fn idle(&self) -> u8
-        ensures { (past : List KeyboardEntry) → KeyboardStands self.now past → result ≡ idle_rate past }
+    /// What a class request that reads is answered, and None for one that sets something. The input report is the one
+    /// that was made last, or the one with nothing pressed where none was made since the last bus reset or configuration;
+    /// reading it takes nothing from a latch.
+    pub fn read(&self, request: HidRequest) -> Option<Packet>
+        ensures value { result ≡ value_answer request self.now }
+        ensures answer { (past : List KeyboardEntry) → KeyboardStands self.now past
+            → result ≡ read_answer request past }
     {
-        self.idle_rate
-    }
-
-    /// The report that was made last, or the one with nothing pressed where none was made since the last bus reset or
-    /// configuration. Asking for it (HID 1.11, 7.2.1) takes nothing from a latch.
-    pub fn report(&self) -> Packet
-        ensures { (past : List KeyboardEntry) → KeyboardStands self.now past
-            → result ≡ key_report (last_made past) }
-    {
-        report_of(&self.last)
+        match request {
+            HidRequest::GetInput => Some(report_of(&self.last)),
+            HidRequest::GetOutput => Some(Packet::from_slice(&[self.lamps])),
+            HidRequest::GetIdle => self.settings.answer(request),
+            HidRequest::GetProtocol => self.settings.answer(request),
+            HidRequest::SetOutput => None,
+            HidRequest::SetIdle(_) => None,
+            HidRequest::SetProtocol(_) => None,
+        }
     }
 
     /// Takes a poll at this tick while the port is selected, whose answer the host acknowledges or not. The first of
@@ -185,7 +224,7 @@ impl Keyboard {
             → KeyLatchStands latch.new (latch_after result keys) }
         ensures key { IsPassedOn result }
     {
-        if self.open {
+        if self.unread {
             return Given::Again;
         }
         if self.is_due() {
@@ -207,7 +246,7 @@ impl Keyboard {
     fn case_apart(&self) -> Given
         ensures { result ≡ case_apart self.now }
     {
-        if self.open {
+        if self.unread {
             Given::Again
         } else if self.is_due() {
             Given::Due
@@ -225,9 +264,10 @@ impl Keyboard {
 
     /// Whether it is time to send the last report again.
     fn is_idle(&self, tick: Tick) -> bool
-        ensures { result ≡ is_time self.now.idle_rate self.now.idle_since tick }
+        ensures { result ≡ is_time self.now.settings.idle_rate self.now.idle_since tick }
     {
-        self.idle_rate > 0 && self.idle_since as u64 + 4 * self.idle_rate as u64 <= tick as u64
+        let rate = self.settings.idle_rate;
+        rate > 0 && self.idle_since as u64 + 4 * rate as u64 <= tick as u64
     }
 
     /// Answers a poll by its case. Once the report is acknowledged, the idle time counts from this tick.
@@ -256,7 +296,7 @@ impl Keyboard {
             toggle: self.toggle,
             bytes: report_of(&self.last),
         };
-        self.open = !acked;
+        self.unread = !acked;
         if acked {
             self.toggle = !self.toggle;
             self.idle_since = tick;
@@ -273,5 +313,15 @@ fn show(keys: &mut KeySet, change: KeyChange)
     match change {
         KeyChange::Press(usage) => keys.add(usage),
         KeyChange::Release(usage) => keys.remove(usage),
+    }
+}
+
+/// The lamps after an output report: its bits below `LAMPS`.
+fn lamps_in(report: &[u8], before: u8) -> u8
+    ensures { result ≡ lamps_in report.now before }
+{
+    match report.first() {
+        Some(byte) => *byte % LAMPS,
+        None => before,
     }
 }

@@ -2,9 +2,11 @@
 #![tactic(auto)]
 
 pub mod delivery;
+pub mod descriptors;
+mod function;
 pub mod given;
 pub mod keyboard;
 mod report;
 
 pub use given::Given;
-pub use keyboard::{IDLE_RATE, Keyboard};
+pub use keyboard::{IDLE_RATE, INTERFACE, Keyboard};

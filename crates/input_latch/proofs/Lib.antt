@@ -1,4 +1,6 @@
+pub mod AcceptedChanges
 mod Examples
 pub mod KeyCounts
 pub mod KeyLatchLaws
+pub mod PointerGiven
 pub mod PointerLatchLaws

@@ -21,13 +21,13 @@ unfolding no_buttons keys_from
 none_held = refl
 
 -- held buttons, change by change
-held_from-append : (buttons : List Bool) (changes : List PointerChange) (change : PointerChange) → held_from buttons (changes ++ change ∷ []) ≡ held_with (held_from buttons changes) change
+pub held_from-append : (buttons : List Bool) (changes : List PointerChange) (change : PointerChange) → held_from buttons (changes ++ change ∷ []) ≡ held_with (held_from buttons changes) change
 unfolding held_from
 held_from-append buttons [] change = refl
 held_from-append buttons (first ∷ changes) change = held_from-append (held_with buttons first) changes change
 
 -- whether a change is a motion
-abbrev is_motion : Option PointerChange → Bool
+abbrev pub is_motion : Option PointerChange → Bool
 is_motion None = false
 is_motion (Some (Press button)) = false
 is_motion (Some (Release button)) = false
@@ -50,7 +50,7 @@ last_change-drop (suc given) [] h = absurd (omega arith)
 last_change-drop (suc given) (change ∷ []) h = absurd (omega arith)
 last_change-drop (suc given) (first ∷ second ∷ changes) h = last_change-drop given (second ∷ changes) (omega arith)
 
-length-before_last : (changes : List PointerChange) → length (before_last changes) ≡ length changes - 1
+pub length-before_last : (changes : List PointerChange) → length (before_last changes) ≡ length changes - 1
 unfolding before_last
 length-before_last [] = refl
 length-before_last (change ∷ []) = refl
@@ -88,7 +88,7 @@ joins Apart = false
 joins TooFar = false
 joins (Sum x y wheel) = true
 
-abbrev adds : Effect → Bool
+abbrev pub adds : Effect → Bool
 adds Appended = false
 adds (Added x y wheel) = true
 adds TurnedAway = false
@@ -108,7 +108,7 @@ adds_join Apart undelivered holds is = absurd (by_free (has_free 1 undelivered h
 adds_join TooFar undelivered holds is = is
 adds_join (Sum x y wheel) undelivered holds is = refl
 
-adds_motion : (undelivered : List PointerChange) (holds : List Bool) (change : PointerChange) → adds (effect_on undelivered holds change) ≡ true → is_motion (last_change undelivered) ≡ true
+pub adds_motion : (undelivered : List PointerChange) (holds : List Bool) (change : PointerChange) → adds (effect_on undelivered holds change) ≡ true → is_motion (last_change undelivered) ≡ true
 adds_motion undelivered holds (Press button) is = absurd (by_free (has_free 2 (length undelivered) holds) is) where
   by_free : (free : Bool) → adds (if free then Appended else TurnedAway) ≡ true → ⊥
   by_free true is = absurd (cc)
@@ -120,7 +120,7 @@ adds_motion undelivered holds (Release button) is = absurd (by_held (has_key hol
 adds_motion undelivered holds (Motion x y wheel) is =
     joins_motion (last_change undelivered) x y wheel (adds_join (join_of (last_change undelivered) x y wheel) (length undelivered) holds is)
 
-some_left : (changes : List PointerChange) → is_motion (last_change changes) ≡ true → 1 ≤ length changes
+pub some_left : (changes : List PointerChange) → is_motion (last_change changes) ≡ true → 1 ≤ length changes
 unfolding last_change
 some_left [] is = absurd (cc)
 some_left (change ∷ changes) is = omega arith

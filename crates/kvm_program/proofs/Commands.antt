@@ -11,24 +11,27 @@ use Rattle.psd_base.specs.declared.stop.Stop.{Stop}
 use Rattle.psd_base.specs.declared.stop.Stop.TheVariants.{Usage, Rules, Capture, Script, TooLong, ReadFault, WriteFault, OutOfMemory}
 use Rattle.psd_base.specs.declared.summary.Summary.{Summary}
 use Rattle.psd_base.specs.Event.{Seen}
-use Rattle.admin_rules.specs.RuleFile.{Lists, rules_of}
+use Rattle.peripheral_filter.specs.declared.rule.RuleSet.{RuleSet}
+use Rattle.admin_rules.specs.RuleFile.{Lists, lists_of, rules_of}
 use Rattle.capture_reader.specs.Reader.{IsOver, NewFailed}
 use Rattle.capture_reader.specs.Merge.{schedule_told}
 use Rattle.capture_reader.specs.Schedule.{Schedule, over}
 use Rattle.port_transcript.specs.StopLine.{stop_text}
+use Rattle.kvm_program.specs.declared.rules.TheConstants.{RULES_READ}
 use Rattle.kvm_program.specs.Check.{CheckEnds, Checks, CheckStops, OnlyChecks}
 use Rattle.kvm_program.specs.Outlets.{AndFaults, Grew}
-use Rattle.kvm_program.specs.Progress.{WroteAtStop}
-use Rattle.kvm_program.specs.Replay.{EndsUnlessNoMemory, FaultWritten, IsUnread, NothingFailed, OnlyReplays, Replays, ReportAtStop, ReportWritten, RulesJudged, RunStops, Serves, TextWritten}
+use Rattle.kvm_program.specs.Progress.{PortsAboveStay, WroteAtStop}
+use Rattle.kvm_program.specs.Replay.{EndsUnlessNoMemory, FaultWritten, IsUnread, NothingFailed, OnlyReplays, OnlyRuns, Replays, ReportAtStop, ReportWritten, RulesJudged, RunStops, Serves, TextWritten}
 use Rattle.kvm_program.specs.Report.{report_text, summary_of}
-use Rattle.kvm_program.specs.Rules.{RulesAreFaulty, RulesStop}
-use Rattle.kvm_program.specs.Run.{Run, run_told}
+use Rattle.kvm_program.specs.Rules.{FewRulesTaken, RulesAreFaulty, RulesStop, TakesAtMost}
+use Rattle.kvm_program.specs.Run.{Run, run_told, run_under}
+use Rattle.kvm_program.specs.Console.{console_of}
 use Rattle.kvm_program.specs.Log.{log_of}
 use Rattle.kvm_program.specs.Texts.{text_of}
 use Rattle.kvm_program.specs.Transcript.{transcript_of}
 use Rattle.kvm_program.proofs.Parts.{Grew-nothing, Grew-whole}
 use Rattle.kvm_program.proofs.Serving.{Grew-empty, Rose-between}
-use Rattle.kvm_program.proofs.Told.{schedule_of_told}
+use Rattle.kvm_program.proofs.Told.{run_of_taken, schedule_of_run, schedule_of_told}
 
 -- a fact of what an outlet held before and after, where both are the same elsewhere
 moved : (Holds : Option (List ℕ) → Option (List ℕ) → Type 0) (before before_too after after_too : Option (List ℕ))
@@ -53,10 +56,13 @@ Report-stays OutOfMemory text before after same = same
 
 -- serving stopped
 pub Serves-stopped : (stop : Stop) (run : Run) (before after : Told)
-    → ((to : Outlet) → WroteAtStop stop (text_of to run.schedule.events) (before.sent to) (after.sent to))
+    → ((to : Outlet) → WroteAtStop stop (text_of run.rules to run.schedule.events) (before.sent to) (after.sent to))
+    → PortsAboveStay run.ports before after
     → after.sent outlet.Report ≡ before.sent outlet.Report → Serves (Err stop) run before after
-Serves-stopped stop run before after written same = record {
+Serves-stopped stop run before after written above same = record {
   ports = λ port. written (outlet.Port port);
+  above = above;
+  console = written outlet.Console;
   log = written outlet.Log;
   report = Report-stays stop _ _ _ same;
   ok = tt;
@@ -64,26 +70,32 @@ Serves-stopped stop run before after written same = record {
 
 -- all was served, and the report couldn't be written
 pub Serves-unreported : (run : Run) (before mid after : Told)
-    → ((to : Outlet) → Grew (before.sent to) (mid.sent to) (text_of to run.schedule.events))
+    → ((to : Outlet) → Grew (before.sent to) (mid.sent to) (text_of run.rules to run.schedule.events))
+    → PortsAboveStay run.ports before mid
     → mid.sent outlet.Report ≡ before.sent outlet.Report → OnlyWrites outlet.Report mid after
-    → IsAppendedPart (mid.sent outlet.Report) (after.sent outlet.Report) (report_text (summary_of run.ports run.schedule.events))
+    → IsAppendedPart (mid.sent outlet.Report) (after.sent outlet.Report) (report_text (summary_of run.rules run.ports run.schedule.events))
     → Serves (Err (WriteFault outlet.Report)) run before after
-Serves-unreported run before mid after written unreported only part = record {
+Serves-unreported run before mid after written above unreported only part = record {
   ports = λ port. Grew-whole _ _ _ (rw (only.outlets (outlet.Port port) (λ e. absurd (cc))) (written (outlet.Port port)));
+  above = λ port over. only.outlets (outlet.Port port) (λ e. absurd (cc)) ∙ above port over;
+  console = Grew-whole _ _ _ (rw (only.outlets outlet.Console (λ e. absurd (cc))) (written outlet.Console));
   log = Grew-whole _ _ _ (rw (only.outlets outlet.Log (λ e. absurd (cc))) (written outlet.Log));
-  report = subst (λ (start : Option (List ℕ)). IsAppendedPart start (after.sent outlet.Report) (report_text (summary_of run.ports run.schedule.events))) unreported part;
+  report = subst (λ (start : Option (List ℕ)). IsAppendedPart start (after.sent outlet.Report) (report_text (summary_of run.rules run.ports run.schedule.events))) unreported part;
   ok = tt;
 }
 
 -- all was served and reported
 pub Serves-all : (run : Run) (before mid after : Told) (summary : Summary)
-    → ((to : Outlet) → Grew (before.sent to) (mid.sent to) (text_of to run.schedule.events))
+    → ((to : Outlet) → Grew (before.sent to) (mid.sent to) (text_of run.rules to run.schedule.events))
+    → PortsAboveStay run.ports before mid
     → mid.sent outlet.Report ≡ before.sent outlet.Report → OnlyWrites outlet.Report mid after
-    → run.schedule.stop ≡ None → summary ≡ summary_of run.ports run.schedule.events
+    → run.schedule.stop ≡ None → summary ≡ summary_of run.rules run.ports run.schedule.events
     → Grew (mid.sent outlet.Report) (after.sent outlet.Report) (report_text summary)
     → Serves (Ok summary) run before after
-Serves-all run before mid after summary written unreported only whole is report = record {
+Serves-all run before mid after summary written above unreported only whole is report = record {
   ports = λ port. rw (only.outlets (outlet.Port port) (λ e. absurd (cc))) (written (outlet.Port port));
+  above = λ port over. only.outlets (outlet.Port port) (λ e. absurd (cc)) ∙ above port over;
+  console = rw (only.outlets outlet.Console (λ e. absurd (cc))) (written outlet.Console);
   log = rw (only.outlets outlet.Log (λ e. absurd (cc))) (written outlet.Log);
   report = subst (λ (s : Summary). Grew (before.sent outlet.Report) (after.sent outlet.Report) (report_text s)) is
       (subst (λ (start : Option (List ℕ)). Grew start (after.sent outlet.Report) (report_text summary)) unreported report);
@@ -91,58 +103,67 @@ Serves-all run before mid after summary written unreported only whole is report 
 }
 
 -- there was no reader, so that nothing was written
-pub Serves-none : (stop : Stop) (run : Run) (before after : Told) (unread : Type 0) → run_told before ≡ Some run
+pub Serves-none : (rules : RuleSet) (stop : Stop) (run : Run) (before after : Told) (unread : Type 0) → run_under rules before ≡ Some run
     → NewFailed (schedule_told EVENTS_MAX before) before after unread stop → ((to : Outlet) → after.sent to ≡ before.sent to)
     → Serves (Err stop) run before after
-Serves-none stop run before after unread told failed same = Serves-stopped stop run before after (λ to. by_stop stop to failed) (same outlet.Report) where
-  nothing : (end : Option Stop) (to : Outlet) → IsOver end (schedule_told EVENTS_MAX before) → Grew (before.sent to) (after.sent to) (text_of to run.schedule.events)
-  nothing end to is =
-      let Over : Option Schedule → Type 0 = λ coming. IsOver end coming in
-      let none : run.schedule ≡ over end = subst Over (schedule_of_told before run told) is in
-      subst (λ (s : Schedule). Grew (before.sent to) (after.sent to) (text_of to s.events)) (sym none) (Grew-empty (before.sent to) (after.sent to) to (same to))
+Serves-none rules stop run before after unread told failed same =
+    Serves-stopped stop run before after (λ to. by_stop stop to failed) (λ port above. same (outlet.Port port)) (same outlet.Report) where
+      nothing : (end : Option Stop) (to : Outlet) → IsOver end (schedule_told EVENTS_MAX before) → Grew (before.sent to) (after.sent to) (text_of run.rules to run.schedule.events)
+      nothing end to is =
+          let Over : Option Schedule → Type 0 = λ coming. IsOver end coming in
+          let none : run.schedule ≡ over end = subst Over (schedule_of_run rules before run told).0 is in
+          subst (λ (s : Schedule). Grew (before.sent to) (after.sent to) (text_of run.rules to s.events)) (sym none) (Grew-empty run.rules (before.sent to) (after.sent to) to (same to))
 
-  by_stop : (stop : Stop) (to : Outlet) → NewFailed (schedule_told EVENTS_MAX before) before after unread stop
-      → WroteAtStop stop (text_of to run.schedule.events) (before.sent to) (after.sent to)
-  by_stop (Capture offset why) to is = nothing (Some (Capture offset why)) to is
-  by_stop (Script line why) to is = nothing (Some (Script line why)) to is
-  by_stop TooLong to is = absurd is
-  by_stop (ReadFault input.Capture) to is = (0, Grew-nothing _ _ (same to))
-  by_stop (ReadFault input.Script) to is = (0, Grew-nothing _ _ (same to))
-  by_stop (ReadFault input.Rules) to is = absurd is
-  by_stop (WriteFault place) to is = absurd is
-  by_stop Usage to is = absurd is
-  by_stop (Rules why) to is = absurd is
-  by_stop OutOfMemory to is = same to
+      by_stop : (stop : Stop) (to : Outlet) → NewFailed (schedule_told EVENTS_MAX before) before after unread stop
+          → WroteAtStop stop (text_of run.rules to run.schedule.events) (before.sent to) (after.sent to)
+      by_stop (Capture offset why) to is = nothing (Some (Capture offset why)) to is
+      by_stop (Script line why) to is = nothing (Some (Script line why)) to is
+      by_stop TooLong to is = absurd is
+      by_stop (ReadFault input.Capture) to is = (0, Grew-nothing _ _ (same to))
+      by_stop (ReadFault input.Script) to is = (0, Grew-nothing _ _ (same to))
+      by_stop (ReadFault input.Rules) to is = absurd is
+      by_stop (WriteFault place) to is = absurd is
+      by_stop Usage to is = absurd is
+      by_stop (Rules why) to is = absurd is
+      by_stop OutOfMemory to is = same to
 
 -- what a run gives, where nothing was written before it, and only the faults after it
 pub Serves-between : (result : Result Summary Stop) (run : Run) (before mid mid_after after : Told)
     → ((to : Outlet) → mid.sent to ≡ before.sent to) → ((to : Outlet) → to ≢ outlet.Faults → after.sent to ≡ mid_after.sent to)
     → Serves result run mid mid_after → Serves result run before after
 Serves-between result run before mid mid_after after same same_after serves = record {
-  ports = λ port. between (outlet.Port port) (TextWritten result (transcript_of port run.schedule.events)) (λ e. absurd (cc)) (serves.ports port);
-  log = between outlet.Log (TextWritten result (log_of run.schedule.events)) (λ e. absurd (cc)) serves.log;
-  report = between outlet.Report (ReportWritten result (report_text (summary_of run.ports run.schedule.events))) (λ e. absurd (cc)) serves.report;
+  ports = λ port. between (outlet.Port port) (TextWritten result (transcript_of run.rules port run.schedule.events)) (λ e. absurd (cc)) (serves.ports port);
+  above = λ port over. same_after (outlet.Port port) (λ e. absurd (cc)) ∙ (serves.above port over ∙ same (outlet.Port port));
+  console = between outlet.Console (TextWritten result (console_of run.rules run.schedule.events)) (λ e. absurd (cc)) serves.console;
+  log = between outlet.Log (TextWritten result (log_of run.rules run.schedule.events)) (λ e. absurd (cc)) serves.log;
+  report = between outlet.Report (ReportWritten result (report_text (summary_of run.rules run.ports run.schedule.events))) (λ e. absurd (cc)) serves.report;
   ok = serves.ok;
 } where
   between : (to : Outlet) (Holds : Option (List ℕ) → Option (List ℕ) → Type 0) → to ≢ outlet.Faults → Holds (mid.sent to) (mid_after.sent to) → Holds (before.sent to) (after.sent to)
   between to Holds apart holds = moved Holds (mid.sent to) (before.sent to) (mid_after.sent to) (after.sent to) (sym (same to)) (same_after to apart) holds
 
--- the number of ports by another way
-pub Serves-ports : (result : Result Summary Stop) (run : Run) (ports : ℕ) (before after : Told) → ports ≡ run.ports
-    → Serves result (record { ports = ports; schedule = run.schedule }) before after → Serves result run before after
-Serves-ports result run ports before after same serves = subst (λ (n : ℕ). Serves result (record { ports = n; schedule = run.schedule }) before after) same serves
+-- the rules and the number of ports by another way
+pub Serves-same : (result : Result Summary Stop) (run : Run) (rules : RuleSet) (ports : ℕ) (before after : Told) → run.rules ≡ rules → ports ≡ run.ports
+    → Serves result (record { rules = rules; ports = ports; schedule = run.schedule }) before after → Serves result run before after
+Serves-same result run rules ports before after same_rules same_ports serves =
+    subst (λ (r : RuleSet). Serves result (record { rules = r; ports = run.ports; schedule = run.schedule }) before after) (sym same_rules)
+    (subst (λ (n : ℕ). Serves result (record { rules = rules; ports = n; schedule = run.schedule }) before after) same_ports serves)
 
 -- why a run stops, told from an earlier and to a later moment
 pub RunStops-between : (stop : Stop) (refused : RulesFault → Type 0) (unread unread_too : Type 0) (coming : Option Schedule) (before mid mid_after after : Told)
     → ((which : Input) → before.read_faults which ≤ mid.read_faults which) → ((which : Input) → mid_after.read_faults which ≤ after.read_faults which)
     → ((to : Outlet) → before.write_faults to ≤ mid.write_faults to) → ((to : Outlet) → mid_after.write_faults to ≤ after.write_faults to)
     → (unread → unread_too) → RunStops stop refused unread coming mid mid_after → RunStops stop refused unread_too coming before after
-RunStops-between (Rules why) refused unread unread_too coming before mid mid_after after reads reads_after writes writes_after still is = is
+RunStops-between (Rules why) refused unread unread_too coming before mid mid_after after reads reads_after writes writes_after still is = (is.0, still is.1)
 RunStops-between (Capture offset why) refused unread unread_too coming before mid mid_after after reads reads_after writes writes_after still is = is
 RunStops-between (Script line why) refused unread unread_too coming before mid mid_after after reads reads_after writes writes_after still is = is
 RunStops-between TooLong refused unread unread_too coming before mid mid_after after reads reads_after writes writes_after still is = is
-RunStops-between (ReadFault which) refused unread unread_too coming before mid mid_after after reads reads_after writes writes_after still is =
-    Rose-between _ _ _ _ (reads which) (reads_after which) is
+RunStops-between (ReadFault input.Rules) refused unread unread_too coming before mid mid_after after reads reads_after writes writes_after still is =
+    (Rose-between _ _ _ _ (reads input.Rules) (reads_after input.Rules) is.0, still is.1)
+RunStops-between (ReadFault input.Capture) refused unread unread_too coming before mid mid_after after reads reads_after writes writes_after still is =
+    Rose-between _ _ _ _ (reads input.Capture) (reads_after input.Capture) is
+RunStops-between (ReadFault input.Script) refused unread unread_too coming before mid mid_after after reads reads_after writes writes_after still is =
+    Rose-between _ _ _ _ (reads input.Script) (reads_after input.Script) is
 RunStops-between (WriteFault to) refused unread unread_too coming before mid mid_after after reads reads_after writes writes_after still is =
     (is.0, Rose-between _ _ _ _ (writes to) (writes_after to) is.1)
 RunStops-between OutOfMemory refused unread unread_too coming before mid mid_after after reads reads_after writes writes_after still is = still is
@@ -166,22 +187,27 @@ replay_completes (Err stop) before after run bytes because told whole read sound
       absurd (cc (same, sound))
 
   by_stop : (stop : Stop) → RunStops stop (RulesAreFaulty before) (IsUnread before after) (schedule_told EVENTS_MAX before) before after → EndsUnlessNoMemory (Err stop)
-  by_stop (Rules why) is = absurd (refused why is)
+  by_stop (Rules why) is = absurd (refused why is.0)
   by_stop (Capture offset why) is = absurd (ends (Capture offset why) is)
   by_stop (Script line why) is = absurd (ends (Script line why) is)
   by_stop TooLong is = absurd (ends TooLong is)
-  by_stop (ReadFault which) is = absurd (none.reads which is)
+  by_stop (ReadFault input.Rules) is = absurd (none.reads input.Rules is.0)
+  by_stop (ReadFault input.Capture) is = absurd (none.reads input.Capture is)
+  by_stop (ReadFault input.Script) is = absurd (none.reads input.Script is)
   by_stop (WriteFault to) is = absurd (none.writes to is.1)
   by_stop OutOfMemory is = inr refl
   by_stop Usage is = absurd is
 
 -- the rules were refused, or not read
-pub Replays-refused : (stop : Stop) (before after : Told) → RulesStop before after stop → OnlyReads input.Rules before after → Replays (Err stop) before after
-Replays-refused stop before after because only = record {
-  serves = λ run told. Serves-stopped stop run before after (λ to. written stop to (text_of to run.schedule.events) because) (same outlet.Report);
+pub Replays-refused : (stop : Stop) (before after : Told) → RulesStop before after stop → FewRulesTaken before after → OnlyReads input.Rules before after
+    → Replays (Err stop) before after
+Replays-refused stop before after because few only = record {
+  serves = λ run told. Serves-stopped stop run before after (λ to. written stop to (text_of run.rules to run.schedule.events) because)
+      (λ port above. same (outlet.Port port)) (same outlet.Report);
   rules = λ bytes read. judged stop bytes read because;
   stop = by_stop stop because;
   complete = λ run bytes told whole read sound none. replay_completes (Err stop) before after run bytes (by_stop stop because) told whole read sound none;
+  few = few;
   only = record {
     inputs = λ which apart. absurd (apart tt);
     outlets = λ to apart. same to;
@@ -220,8 +246,8 @@ Replays-refused stop before after because only = record {
   judged Usage bytes read is = absurd is
 
   by_stop : (stop : Stop) → RulesStop before after stop → RunStops stop (RulesAreFaulty before) (IsUnread before after) (schedule_told EVENTS_MAX before) before after
-  by_stop (Rules why) is = is
-  by_stop (ReadFault input.Rules) is = is
+  by_stop (Rules why) is = (is, unread)
+  by_stop (ReadFault input.Rules) is = (is, unread)
   by_stop (ReadFault input.Capture) is = absurd is
   by_stop (ReadFault input.Script) is = absurd is
   by_stop OutOfMemory is = unread
@@ -231,25 +257,25 @@ Replays-refused stop before after because only = record {
   by_stop (WriteFault place) is = absurd is
   by_stop Usage is = absurd is
 
--- what was told by the capture and the script alone
-same_told : (before mid : Told) → mid.left input.Capture ≡ before.left input.Capture → mid.left input.Script ≡ before.left input.Script
-    → (run_told mid ≡ run_told before) × (schedule_told EVENTS_MAX mid ≡ schedule_told EVENTS_MAX before)
-same_told before mid capture script = (rw (capture, script) refl, rw (capture, script) refl)
+-- so many bytes were taken, and then none
+FewRulesTaken-then : (before mid after : Told) → FewRulesTaken before mid → after.left input.Rules ≡ mid.left input.Rules → FewRulesTaken before after
+FewRulesTaken-then before mid after few same = subst (λ (left : Option (List ℕ)). TakesAtMost RULES_READ (before.left input.Rules) left) (sym same) few
 
--- the rules were taken, and then the run went so
-pub Replays-run : (result : Result Summary Stop) (before mid after : Told) → OnlyReads input.Rules before mid
-    → ((bytes : List ℕ) → before.left input.Rules ≡ Some bytes → IsOk (rules_of bytes))
-    → ((run : Run) → run_told mid ≡ Some run → Serves result run mid after)
+-- the rules were taken, and then the run under them went so
+pub Replays-run : (rules : RuleSet) (result : Result Summary Stop) (before mid after : Told) → OnlyReads input.Rules before mid → FewRulesTaken before mid
+    → IfSome (before.left input.Rules) (λ bytes. rules_of bytes ≡ Ok (lists_of rules))
+    → ((run : Run) → run_under rules mid ≡ Some run → Serves result run mid after)
     → IfErr result (λ stop. RunStops stop (λ _. ⊥) (IsUnread mid after) (schedule_told EVENTS_MAX mid) mid after)
-    → OnlyReplays mid after → Replays result before after
-Replays-run result before mid after read sound serves because only = record {
-  serves = λ run told. Serves-between result run before mid after after unwritten (λ to apart. refl) (serves run (told_same.0 ∙ told));
+    → OnlyRuns mid after → Replays result before after
+Replays-run rules result before mid after read few taken serves because only = record {
+  serves = λ run told. Serves-between result run before mid after after unwritten (λ to apart. refl) (serves run (run_of_taken rules before mid run taken capture script told));
   rules = λ bytes is. judged result bytes because (sound bytes is);
   stop = by_result result because;
   complete = λ run bytes told whole is fine none. replay_completes result before after run bytes (by_result result because) told whole is fine none;
+  few = FewRulesTaken-then before mid after few (only.inputs input.Rules (λ e. e));
   only = record {
     inputs = λ which apart. absurd (apart tt);
-    outlets = λ to apart. only.outlets to apart ∙ unwritten to;
+    outlets = λ to apart. only.outlets to (λ is. apart (inl is)) ∙ unwritten to;
     read_counts = λ which. omega (arith, read.read_counts which, only.read_counts which);
     write_counts = λ to. omega (arith, read.write_counts to, only.write_counts to);
   };
@@ -263,14 +289,19 @@ Replays-run result before mid after read sound serves because only = record {
   script : mid.left input.Script ≡ before.left input.Script
   script = read.inputs input.Script (λ e. absurd (cc))
 
-  told_same : (run_told mid ≡ run_told before) × (schedule_told EVENTS_MAX mid ≡ schedule_told EVENTS_MAX before)
-  told_same = same_told before mid capture script
+  same_schedule : schedule_told EVENTS_MAX mid ≡ schedule_told EVENTS_MAX before
+  same_schedule = rw (capture, script) refl
+
+  sound : (bytes : List ℕ) → before.left input.Rules ≡ Some bytes → IsOk (rules_of bytes)
+  sound bytes is =
+      let fine : rules_of bytes ≡ Ok (lists_of rules) = subst (λ (left : Option (List ℕ)). IfSome left (λ bs. rules_of bs ≡ Ok (lists_of rules))) is taken in
+      rw fine refl
 
   judged : (result : Result Summary Stop) (bytes : List ℕ)
       → IfErr result (λ stop. RunStops stop (λ _. ⊥) (IsUnread mid after) (schedule_told EVENTS_MAX mid) mid after)
       → IsOk (rules_of bytes) → RulesJudged result (rules_of bytes)
   judged (Ok summary) bytes because fine = fine
-  judged (Err (Rules why)) bytes because fine = absurd because
+  judged (Err (Rules why)) bytes because fine = absurd because.0
   judged (Err (Capture offset why)) bytes because fine = fine
   judged (Err (Script line why)) bytes because fine = fine
   judged (Err TooLong) bytes because fine = fine
@@ -283,11 +314,13 @@ Replays-run result before mid after read sound serves because only = record {
 
   by_stop : (stop : Stop) → RunStops stop (λ _. ⊥) (IsUnread mid after) (schedule_told EVENTS_MAX mid) mid after
       → RunStops stop (RulesAreFaulty before) (IsUnread before after) (schedule_told EVENTS_MAX before) before after
-  by_stop (Rules why) is = absurd is
-  by_stop (Capture offset why) is = subst (λ (coming : Option Schedule). IfSome coming (λ schedule. schedule.stop ≡ Some (Capture offset why))) told_same.1 is
-  by_stop (Script line why) is = subst (λ (coming : Option Schedule). IfSome coming (λ schedule. schedule.stop ≡ Some (Script line why))) told_same.1 is
-  by_stop TooLong is = subst (λ (coming : Option Schedule). IfSome coming (λ schedule. schedule.stop ≡ Some TooLong)) told_same.1 is
-  by_stop (ReadFault which) is = Rose-between _ _ _ _ (read.read_counts which) (omega arith) is
+  by_stop (Rules why) is = absurd is.0
+  by_stop (Capture offset why) is = subst (λ (coming : Option Schedule). IfSome coming (λ schedule. schedule.stop ≡ Some (Capture offset why))) same_schedule is
+  by_stop (Script line why) is = subst (λ (coming : Option Schedule). IfSome coming (λ schedule. schedule.stop ≡ Some (Script line why))) same_schedule is
+  by_stop TooLong is = subst (λ (coming : Option Schedule). IfSome coming (λ schedule. schedule.stop ≡ Some TooLong)) same_schedule is
+  by_stop (ReadFault input.Rules) is = (Rose-between _ _ _ _ (read.read_counts input.Rules) (omega arith) is.0, (is.1.0 ∙ capture, is.1.1 ∙ script))
+  by_stop (ReadFault input.Capture) is = Rose-between _ _ _ _ (read.read_counts input.Capture) (omega arith) is
+  by_stop (ReadFault input.Script) is = Rose-between _ _ _ _ (read.read_counts input.Script) (omega arith) is
   by_stop (WriteFault to) is = (is.0, Rose-between _ _ _ _ (read.write_counts to) (omega arith) is.1)
   by_stop OutOfMemory is = (is.0 ∙ capture, is.1 ∙ script)
   by_stop Usage is = absurd is
@@ -311,6 +344,7 @@ Replays-told result before mid after replays only = record {
   rules = replays.rules;
   stop = by_result result replays.stop;
   complete = λ run bytes told whole read sound none. replays.complete run bytes told whole read sound (none_earlier before mid after only none);
+  few = FewRulesTaken-then before mid after replays.few (only.inputs input.Rules (λ e. e));
   only = record {
     inputs = λ which apart. absurd (apart tt);
     outlets = λ to apart. only.outlets to (λ is. apart (inr is)) ∙ replays.only.outlets to apart;
@@ -331,6 +365,7 @@ Checks-told result before mid after checks only = record {
       (sym (only.outlets outlet.Report (λ e. absurd (cc)))) (checks.ends bytes read);
   stop = by_result result checks.stop;
   complete = λ bytes read sound none. checks.complete bytes read sound (none_earlier before mid after only none);
+  few = FewRulesTaken-then before mid after checks.few (only.inputs input.Rules (λ e. e));
   only = record {
     inputs = λ which apart. only.inputs which (λ e. e) ∙ checks.only.inputs which apart;
     outlets = λ to apart. only.outlets to (λ is. apart (inr is)) ∙ checks.only.outlets to apart;

@@ -1,5 +1,7 @@
 pub mod Commands
 pub mod Counting
+pub mod OneWay
+pub mod Orders
 pub mod Parts
 pub mod Serving
 pub mod Sizes

@@ -1,8 +1,10 @@
 -- Outlets that grew by a text, or by a part of it.
-use Rattle.std.proofs.Common.{◌≡◌, ℕ, ◌+◌, ◌≤◌, List, [], ◌++◌, length, take, min, Option, Some, None, Result, Ok, Err, refl, sym, ap, ◌∙◌, append_assoc, arith}
+use Rattle.std.proofs.Common.{◌≡◌, ℕ, zero, suc, ◌+◌, ◌≤◌, List, [], ◌++◌, length, take, min, Option, Some, None, Result, Ok, Err, refl, sym, ap, ◌∙◌, append_assoc, arith}
 use Rattle.std.proofs.lemmas.List.{take-append-le, take_min, append-nil}
 use Rattle.std.proofs.Math.Seq.{take-append-add, take-append_seam, take-length}
-use Rattle.psd_base.specs.Desk.{IsAppendedPart}
+use Rattle.psd_base.specs.Desk.{IsAppendedPart, Told, Touches}
+use Rattle.psd_base.specs.declared.outlet.Input.{Input}
+use Rattle.psd_base.specs.declared.outlet.Outlet.{Outlet}
 use Rattle.psd_base.specs.declared.stop.Stop.{Stop}
 use Rattle.kvm_program.specs.Outlets.{Grew, Wrote}
 
@@ -51,3 +53,28 @@ Wrote-before (Err why) before mid after text wrote same = Grew-whole before afte
 pub Wrote-nothing : (result : Result (Unit {0}) Stop) (before after : Option (List ℕ)) → after ≡ before → Wrote result before after []
 Wrote-nothing (Ok done) before after same = Grew-nothing before after same
 Wrote-nothing (Err why) before after same = Grew-whole before after [] (Grew-nothing before after same)
+
+-- no bytes, written whole or in part, leave an outlet as it was
+
+take_nothing : (count : ℕ) → take {A = ℕ} count [] ≡ []
+take_nothing zero = refl
+take_nothing (suc count) = refl
+
+pub Part-stays : (before after : Option (List ℕ)) → IsAppendedPart before after [] → after ≡ before
+Part-stays None after part = part.1
+Part-stays (Some sent) after part = part.1 ∙ ap Some (ap (λ (text : List ℕ). sent ++ text) (take_nothing part.0) ∙ append-nil sent)
+
+pub Wrote-stays : (result : Result (Unit {0}) Stop) (before after : Option (List ℕ)) → Wrote result before after [] → after ≡ before
+Wrote-stays (Ok done) None after wrote = wrote
+Wrote-stays (Ok done) (Some sent) after wrote = wrote ∙ ap Some (append-nil sent)
+Wrote-stays (Err why) before after wrote = Part-stays before after wrote
+
+-- one thing that touches these places, and then another
+pub Touches-then : (reads : Input → Type 0) (writes : Outlet → Type 0) (before mid after : Told)
+    → Touches reads writes before mid → Touches reads writes mid after → Touches reads writes before after
+Touches-then reads writes before mid after one two = record {
+  inputs = λ which apart. two.inputs which apart ∙ one.inputs which apart;
+  outlets = λ to apart. two.outlets to apart ∙ one.outlets to apart;
+  read_counts = λ which. omega (arith, one.read_counts which, two.read_counts which);
+  write_counts = λ to. omega (arith, one.write_counts to, two.write_counts to);
+}

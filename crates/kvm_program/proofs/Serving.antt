@@ -1,9 +1,9 @@
 -- A replay that goes on, ends or stops.
-use Rattle.std.proofs.Common.{◌≡◌, ℕ, ◌+◌, ◌≤◌, inl, inr, List, [], ◌∷◌, ◌++◌, length, Option, Some, None, option_map, IfSome, refl, sym, ap, ◌∙◌, subst, arith}
+use Rattle.std.proofs.Common.{◌≡◌, ℕ, ◌+◌, ◌≤◌, inl, inr, List, [], ◌∷◌, ◌++◌, length, Option, Some, None, option_map, IfSome, Result, refl, sym, ap, ◌∙◌, subst, arith}
 use Rattle.std.proofs.lemmas.Option.{same_Some}
 use Rattle.psd_base.specs.Desk.{IsAppendedPart, Rose, Told}
 use Rattle.psd_base.specs.declared.outlet.Input.{Input}
-use Rattle.psd_base.specs.Event.{Seen}
+use Rattle.psd_base.specs.Event.{HappensWithin, Seen}
 use Rattle.psd_base.specs.History.{onto}
 use Rattle.psd_base.specs.declared.outlet.Outlet.{Outlet}
 use Rattle.psd_base.specs.declared.outlet.Outlet.TheVariants as outlet
@@ -11,17 +11,19 @@ use Rattle.psd_base.specs.declared.stop.RulesFault.{RulesFault}
 use Rattle.psd_base.specs.declared.stop.Stop.{Stop}
 use Rattle.psd_base.specs.declared.stop.Stop.TheVariants.{Usage, Rules, Capture, Script, TooLong, ReadFault, WriteFault, OutOfMemory}
 use Rattle.psd_base.specs.declared.outlet.Input.TheVariants as input
+use Rattle.peripheral_filter.specs.declared.rule.RuleSet.{RuleSet}
 use Rattle.capture_reader.specs.Reader.{Reading, StopsBecause}
 use Rattle.capture_reader.specs.Schedule.{Schedule, in_front, over}
 use Rattle.switch_core.specs.StandsFor.{StandsFor}
 use Rattle.switch_core.specs.declared.switch.Switch.{Switch}
 use Rattle.kvm_program.specs.declared.tally.Tally.{Tally}
-use Rattle.kvm_program.specs.Outlets.{Grew}
+use Rattle.kvm_program.specs.Outlets.{Grew, Wrote, WroteTo}
 use Rattle.kvm_program.specs.Texts.{text_after, text_of, step_text}
-use Rattle.kvm_program.specs.Progress.{Counts, Progress, Finished, IsFresh, behind, WroteAtStop, ServingStops}
+use Rattle.kvm_program.specs.Progress.{Counts, Progress, Finished, IsFresh, PortsAboveStay, behind, WroteAtStop, ServingStops}
 use Rattle.kvm_program.specs.Replay.{RunStops}
-use Rattle.kvm_program.proofs.Parts.{Grew-nothing, Grew-more, Grew-part, Grew-prefix}
+use Rattle.kvm_program.proofs.Parts.{Grew-nothing, Grew-more, Grew-part, Grew-prefix, Wrote-stays}
 use Rattle.kvm_program.proofs.Texts.{text_after-step, text_after-onto}
+use Rattle.kvm_program.proofs.Transcripts.{text_at-above}
 
 -- an event that comes is the newest of what was served
 behind-in_front : (past : List Seen) (event : Seen) (later : Option Schedule)
@@ -43,21 +45,21 @@ behind_is [] later = (refl, refl)
 behind_is (event ∷ past) later = behind_is past (in_front event later)
 
 -- the next event was served
-pub Progress-more : (coming now later : Option Schedule) (start desk desk_after : Told) (switch switch_later : Switch) (tally tally_later : Tally) (event : Seen)
-    (so_far : Progress coming now start desk switch tally)
+pub Progress-more : (rules : RuleSet) (coming now later : Option Schedule) (start desk desk_after : Told) (switch switch_later : Switch) (tally tally_later : Tally) (event : Seen)
+    (so_far : Progress rules coming now start desk switch tally)
     → now ≡ option_map (in_front event) later
-    → StandsFor switch_later (event ∷ so_far.past)
-    → ((to : Outlet) → Grew (desk.sent to) (desk_after.sent to) (step_text to event so_far.past))
-    → Counts tally_later (event ∷ so_far.past)
+    → StandsFor rules switch_later (event ∷ so_far.past)
+    → ((to : Outlet) → Grew (desk.sent to) (desk_after.sent to) (step_text rules to event so_far.past))
+    → Counts rules tally_later (event ∷ so_far.past)
     → switch_later.served ≡ switch.served + 1
-    → Progress coming later start desk_after switch_later tally_later
-Progress-more coming now later start desk desk_after switch switch_later tally tally_later event so_far next stands wrote counted served =
+    → Progress rules coming later start desk_after switch_later tally_later
+Progress-more rules coming now later start desk desk_after switch switch_later tally tally_later event so_far next stands wrote counted served =
     let past = so_far.past in
     record {
       past = event ∷ past;
       stands = stands;
       whole = behind-step coming now later past event next so_far.whole;
-      written = λ to. subst (λ (text : List ℕ). Grew (start.sent to) (desk_after.sent to) text) (sym (text_after-step to event past))
+      written = λ to. subst (λ (text : List ℕ). Grew (start.sent to) (desk_after.sent to) text) (sym (text_after-step rules to event past))
           (Grew-more (start.sent to) (desk.sent to) (desk_after.sent to) _ _ (so_far.written to) (wrote to));
       counted = counted;
       served = let one : length (event ∷ past) ≡ length past + 1 = omega arith in one ∙ (ap (λ (n : ℕ). n + 1) so_far.served ∙ sym served);
@@ -77,11 +79,11 @@ stop_is : (schedule : Schedule) (now : Option Schedule) (past : List Seen) (late
 stop_is schedule now past later whole is = ap (λ (s : Schedule). s.stop) (all_is schedule now past later whole is) ∙ (behind_is past later).1
 
 -- nothing is left: each port has all of its transcript
-pub Progress-over : (schedule : Schedule) (now : Option Schedule) (start desk : Told) (switch : Switch) (tally : Tally) (stop : Option Stop)
-    (so_far : Progress (Some schedule) now start desk switch tally)
+pub Progress-over : (rules : RuleSet) (schedule : Schedule) (now : Option Schedule) (start desk : Told) (switch : Switch) (tally : Tally) (stop : Option Stop)
+    (so_far : Progress rules (Some schedule) now start desk switch tally)
     → IfSome now (λ left. left ≡ over stop)
     → (schedule.stop ≡ stop) × (onto schedule.events [] ≡ so_far.past)
-Progress-over schedule now start desk switch tally stop so_far over_now = by_now now so_far.whole over_now where
+Progress-over rules schedule now start desk switch tally stop so_far over_now = by_now now so_far.whole over_now where
   by_now : (now : Option Schedule) → Some schedule ≡ option_map (behind so_far.past) now → IfSome now (λ left. left ≡ over stop)
       → (schedule.stop ≡ stop) × (onto schedule.events [] ≡ so_far.past)
   by_now None whole is = absurd (cc)
@@ -91,56 +93,71 @@ Progress-over schedule now start desk switch tally stop so_far over_now = by_now
   )
 
 -- what was written so far is a part of all that was to be written
-pub Progress-part : (schedule : Schedule) (now : Option Schedule) (start desk : Told) (switch : Switch) (tally : Tally) (to : Outlet)
-    → Progress (Some schedule) now start desk switch tally
-    → IsAppendedPart (start.sent to) (desk.sent to) (text_of to schedule.events)
-Progress-part schedule now start desk switch tally to so_far = by_now now so_far.whole where
+pub Progress-part : (rules : RuleSet) (schedule : Schedule) (now : Option Schedule) (start desk : Told) (switch : Switch) (tally : Tally) (to : Outlet)
+    → Progress rules (Some schedule) now start desk switch tally
+    → IsAppendedPart (start.sent to) (desk.sent to) (text_of rules to schedule.events)
+Progress-part rules schedule now start desk switch tally to so_far = by_now now so_far.whole where
   by_now : (now : Option Schedule) → Some schedule ≡ option_map (behind so_far.past) now
-      → IsAppendedPart (start.sent to) (desk.sent to) (text_of to schedule.events)
+      → IsAppendedPart (start.sent to) (desk.sent to) (text_of rules to schedule.events)
   by_now None whole = absurd (cc)
   by_now (Some left) whole =
-      let more = text_after-onto to left.events so_far.past in
-      let all = ap (text_after to) (history_is schedule (Some left) so_far.past left whole refl) ∙ more.1 in
+      let more = text_after-onto rules to left.events so_far.past in
+      let all = ap (text_after rules to) (history_is schedule (Some left) so_far.past left whole refl) ∙ more.1 in
       subst (λ (text : List ℕ). IsAppendedPart (start.sent to) (desk.sent to) text) (sym all) (Grew-prefix _ _ _ more.0 (so_far.written to))
 
 -- the same where what the next event gave was written in part
-pub Progress-broken : (schedule : Schedule) (now later : Option Schedule) (start desk desk_after : Told) (switch : Switch) (tally : Tally) (event : Seen) (to : Outlet)
-    (so_far : Progress (Some schedule) now start desk switch tally)
+pub Progress-broken : (rules : RuleSet) (schedule : Schedule) (now later : Option Schedule) (start desk desk_after : Told) (switch : Switch) (tally : Tally) (event : Seen) (to : Outlet)
+    (so_far : Progress rules (Some schedule) now start desk switch tally)
     → now ≡ option_map (in_front event) later
-    → IsAppendedPart (desk.sent to) (desk_after.sent to) (step_text to event so_far.past)
-    → IsAppendedPart (start.sent to) (desk_after.sent to) (text_of to schedule.events)
-Progress-broken schedule now later start desk desk_after switch tally event to so_far next part = by_later later (behind-step (Some schedule) now later so_far.past event next so_far.whole) where
+    → IsAppendedPart (desk.sent to) (desk_after.sent to) (step_text rules to event so_far.past)
+    → IsAppendedPart (start.sent to) (desk_after.sent to) (text_of rules to schedule.events)
+Progress-broken rules schedule now later start desk desk_after switch tally event to so_far next part = by_later later (behind-step (Some schedule) now later so_far.past event next so_far.whole) where
   by_later : (later : Option Schedule) → Some schedule ≡ option_map (behind (event ∷ so_far.past)) later
-      → IsAppendedPart (start.sent to) (desk_after.sent to) (text_of to schedule.events)
+      → IsAppendedPart (start.sent to) (desk_after.sent to) (text_of rules to schedule.events)
   by_later None whole = absurd (cc)
   by_later (Some left) whole =
       let past = so_far.past in
-      let more = text_after-onto to left.events (event ∷ past) in
-      let all = ap (text_after to) (history_is schedule (Some left) (event ∷ past) left whole refl) ∙ (more.1 ∙ ap (λ (text : List ℕ). text ++ more.0) (text_after-step to event past)) in
+      let more = text_after-onto rules to left.events (event ∷ past) in
+      let all = ap (text_after rules to) (history_is schedule (Some left) (event ∷ past) left whole refl) ∙ (more.1 ∙ ap (λ (text : List ℕ). text ++ more.0) (text_after-step rules to event past)) in
       subst (λ (text : List ℕ). IsAppendedPart (start.sent to) (desk_after.sent to) text) (sym all)
-      (Grew-part _ _ _ (text_after to past) (step_text to event past) more.0 (so_far.written to) part)
+      (Grew-part _ _ _ (text_after rules to past) (step_text rules to event past) more.0 (so_far.written to) part)
+
+-- what an event at one of the ports gives goes to none above them
+pub PortsAboveStay-step : (rules : RuleSet) (ports : ℕ) (event : Seen) (past : List Seen) (result : Result (Unit {0}) Stop) (before mid after : Told)
+    → HappensWithin ports event.happening → ((to : Outlet) → mid.sent to ≡ before.sent to)
+    → ((to : Outlet) → WroteTo to result mid after (step_text rules to event past))
+    → PortsAboveStay ports before after
+PortsAboveStay-step rules ports event past result before mid after within same wrote = λ port above.
+    Wrote-stays result (mid.sent (outlet.Port port)) (after.sent (outlet.Port port))
+    (subst (λ (text : List ℕ). Wrote result (mid.sent (outlet.Port port)) (after.sent (outlet.Port port)) text)
+    (text_at-above rules ports port event past within above) (wrote (outlet.Port port))) ∙ same (outlet.Port port)
+
+pub PortsAboveStay-then : (ports ports_now : ℕ) (before mid after : Told) → ports_now ≡ ports → PortsAboveStay ports before mid → PortsAboveStay ports_now mid after
+    → PortsAboveStay ports before after
+PortsAboveStay-then ports ports_now before mid after same one two = λ port above.
+    two port (omega (arith, same, above)) ∙ one port above
 
 -- what an outlet got, where the reader stops
-pub WroteAtStop-advance : (stop : Stop) (reader : Reading) (schedule : Schedule) (now : Option Schedule) (start desk desk_after : Told) (switch : Switch) (tally : Tally) (to : Outlet)
-    → Progress (Some schedule) now start desk switch tally
+pub WroteAtStop-advance : (rules : RuleSet) (stop : Stop) (reader : Reading) (schedule : Schedule) (now : Option Schedule) (start desk desk_after : Told) (switch : Switch) (tally : Tally) (to : Outlet)
+    → Progress rules (Some schedule) now start desk switch tally
     → desk_after.sent to ≡ desk.sent to
     → StopsBecause reader now desk desk_after stop
-    → WroteAtStop stop (text_of to schedule.events) (start.sent to) (desk_after.sent to)
-WroteAtStop-advance stop reader schedule now start desk desk_after switch tally to so_far same because = by_stop stop because where
-  all : (end : Option Stop) → IfSome now (λ left. left ≡ over end) → Grew (start.sent to) (desk_after.sent to) (text_of to schedule.events)
+    → WroteAtStop stop (text_of rules to schedule.events) (start.sent to) (desk_after.sent to)
+WroteAtStop-advance rules stop reader schedule now start desk desk_after switch tally to so_far same because = by_stop stop because where
+  all : (end : Option Stop) → IfSome now (λ left. left ≡ over end) → Grew (start.sent to) (desk_after.sent to) (text_of rules to schedule.events)
   all end is =
-      let over_now = Progress-over schedule now start desk switch tally end so_far is in
-      rw same (subst (λ (past : List Seen). Grew (start.sent to) (desk.sent to) (text_after to past)) (sym over_now.1) (so_far.written to))
+      let over_now = Progress-over rules schedule now start desk switch tally end so_far is in
+      rw same (subst (λ (past : List Seen). Grew (start.sent to) (desk.sent to) (text_after rules to past)) (sym over_now.1) (so_far.written to))
 
-  part : IsAppendedPart (start.sent to) (desk_after.sent to) (text_of to schedule.events)
-  part = rw same (Progress-part schedule now start desk switch tally to so_far)
+  part : IsAppendedPart (start.sent to) (desk_after.sent to) (text_of rules to schedule.events)
+  part = rw same (Progress-part rules schedule now start desk switch tally to so_far)
 
-  by_input : (which : Input) → StopsBecause reader now desk desk_after (ReadFault which) → WroteAtStop (ReadFault which) (text_of to schedule.events) (start.sent to) (desk_after.sent to)
+  by_input : (which : Input) → StopsBecause reader now desk desk_after (ReadFault which) → WroteAtStop (ReadFault which) (text_of rules to schedule.events) (start.sent to) (desk_after.sent to)
   by_input input.Capture is = part
   by_input input.Script is = part
   by_input input.Rules is = absurd is
 
-  by_stop : (stop : Stop) → StopsBecause reader now desk desk_after stop → WroteAtStop stop (text_of to schedule.events) (start.sent to) (desk_after.sent to)
+  by_stop : (stop : Stop) → StopsBecause reader now desk desk_after stop → WroteAtStop stop (text_of rules to schedule.events) (start.sent to) (desk_after.sent to)
   by_stop (Capture offset why) is = all (Some (Capture offset why)) is.1
   by_stop (Script line why) is = all (Some (Script line why)) is.1
   by_stop TooLong is = all (Some TooLong) is.1
@@ -151,16 +168,16 @@ WroteAtStop-advance stop reader schedule now start desk desk_after switch tally 
   by_stop OutOfMemory is = absurd is
 
 -- why the reader stops is why serving stops
-pub ServingStops-advance : (stop : Stop) (reader : Reading) (coming now : Option Schedule) (start desk desk_after : Told) (switch : Switch) (tally : Tally)
-    → Progress coming now start desk switch tally
+pub ServingStops-advance : (rules : RuleSet) (stop : Stop) (reader : Reading) (coming now : Option Schedule) (start desk desk_after : Told) (switch : Switch) (tally : Tally)
+    → Progress rules coming now start desk switch tally
     → StopsBecause reader now desk desk_after stop
     → ServingStops stop coming desk desk_after
-ServingStops-advance stop reader coming now start desk desk_after switch tally so_far because = by_stop stop because where
+ServingStops-advance rules stop reader coming now start desk desk_after switch tally so_far because = by_stop stop because where
   ends : (end : Option Stop) → IfSome now (λ left. left ≡ over end) → IfSome coming (λ schedule. schedule.stop ≡ end)
   ends end is = by_coming coming so_far where
-    by_coming : (coming : Option Schedule) → Progress coming now start desk switch tally → IfSome coming (λ schedule. schedule.stop ≡ end)
+    by_coming : (coming : Option Schedule) → Progress rules coming now start desk switch tally → IfSome coming (λ schedule. schedule.stop ≡ end)
     by_coming None progress = tt
-    by_coming (Some schedule) progress = (Progress-over schedule now start desk switch tally end progress is).0
+    by_coming (Some schedule) progress = (Progress-over rules schedule now start desk switch tally end progress is).0
 
   by_input : (which : Input) → StopsBecause reader now desk desk_after (ReadFault which) → ServingStops (ReadFault which) coming desk desk_after
   by_input input.Capture is = ((λ e. absurd (cc)), is.0)
@@ -186,12 +203,12 @@ Rose-earlier : (first before after : ℕ) → first ≤ before → Rose before a
 Rose-earlier first before after earlier rose = Rose-between first before after after earlier (omega arith) rose
 
 -- no event writes nothing
-pub Grew-empty : (before after : Option (List ℕ)) (to : Outlet) → after ≡ before → Grew before after (text_after to [])
-Grew-empty before after (outlet.Port port) same = Grew-nothing before after same
-Grew-empty before after outlet.Log same = Grew-nothing before after same
-Grew-empty before after outlet.Report same = Grew-nothing before after same
-Grew-empty before after outlet.Faults same = Grew-nothing before after same
-Grew-empty before after outlet.Console same = Grew-nothing before after same
+pub Grew-empty : (rules : RuleSet) (before after : Option (List ℕ)) (to : Outlet) → after ≡ before → Grew before after (text_after rules to [])
+Grew-empty rules before after (outlet.Port port) same = Grew-nothing before after same
+Grew-empty rules before after outlet.Log same = Grew-nothing before after same
+Grew-empty rules before after outlet.Report same = Grew-nothing before after same
+Grew-empty rules before after outlet.Faults same = Grew-nothing before after same
+Grew-empty rules before after outlet.Console same = Grew-nothing before after same
 
 -- why serving stops, told from an earlier moment
 pub ServingStops-earlier : (stop : Stop) (coming : Option Schedule) (first before after : Told)
@@ -213,30 +230,39 @@ length-onto [] past = omega arith
 length-onto (event ∷ events) past = let later = length-onto events (event ∷ past) in omega (arith, later)
 
 -- a replay to the end of its schedule
-pub Finished-over : (schedule : Schedule) (now : Option Schedule) (start desk desk_after : Told) (switch switch_after : Switch) (tally tally_after : Tally)
-    → Progress (Some schedule) now start desk switch tally
+pub Finished-over : (rules : RuleSet) (schedule : Schedule) (now : Option Schedule) (start desk desk_after : Told) (switch switch_after : Switch) (tally tally_after : Tally)
+    → Progress rules (Some schedule) now start desk switch tally
     → IfSome now (λ left. left ≡ over None)
     → ((to : Outlet) → desk_after.sent to ≡ desk.sent to) → switch_after ≡ switch → tally_after ≡ tally
-    → Finished schedule start desk_after switch_after tally_after
-Finished-over schedule now start desk desk_after switch switch_after tally tally_after so_far is same same_switch same_tally =
-    let end = Progress-over schedule now start desk switch tally None so_far is in
+    → Finished rules schedule start desk_after switch_after tally_after
+Finished-over rules schedule now start desk desk_after switch switch_after tally tally_after so_far is same same_switch same_tally =
+    let end = Progress-over rules schedule now start desk switch tally None so_far is in
     record {
       whole = end.0;
-      written = λ to. rw same (subst (λ (past : List Seen). Grew (start.sent to) (desk.sent to) (text_after to past)) (sym end.1) (so_far.written to));
-      counted = subst (λ (past : List Seen). Counts tally_after past) (sym end.1) (subst (λ (t : Tally). Counts t so_far.past) (sym same_tally) so_far.counted);
+      written = λ to. rw same (subst (λ (past : List Seen). Grew (start.sent to) (desk.sent to) (text_after rules to past)) (sym end.1) (so_far.written to));
+      counted = subst (λ (past : List Seen). Counts rules tally_after past) (sym end.1) (subst (λ (t : Tally). Counts rules t so_far.past) (sym same_tally) so_far.counted);
       served = let nothing : length schedule.events ≡ length so_far.past = omega (arith, length-onto schedule.events [], ap length end.1) in
           rw same_switch (sym so_far.served ∙ sym nothing);
     }
 
+-- what serves with a new switch begins
+pub IsFresh-new : (rules : RuleSet) (switch served_by : Switch) (tally : Tally) → StandsFor rules switch [] → switch.served ≡ 0 → served_by ≡ switch
+    → ((any : RuleSet) → Counts any tally []) → IsFresh rules served_by tally
+IsFresh-new rules switch served_by tally stands unserved same empty = record {
+  stands = subst (λ (s : Switch). StandsFor rules s []) (sym same) stands;
+  empty = empty rules;
+  unserved = ap (λ (s : Switch). s.served) same ∙ unserved;
+}
+
 -- a replay that begins
-pub Progress-start : (coming now : Option Schedule) (start desk : Told) (reader : Reading) (switch : Switch) (tally : Tally)
-    → IsFresh reader switch tally → now ≡ coming → ((to : Outlet) → desk.sent to ≡ start.sent to)
-    → Progress coming now start desk switch tally
-Progress-start coming now start desk reader switch tally fresh same unsent = record {
+pub Progress-start : (rules : RuleSet) (coming now : Option Schedule) (start desk : Told) (switch : Switch) (tally : Tally)
+    → IsFresh rules switch tally → now ≡ coming → ((to : Outlet) → desk.sent to ≡ start.sent to)
+    → Progress rules coming now start desk switch tally
+Progress-start rules coming now start desk switch tally fresh same unsent = record {
   past = [];
   stands = fresh.stands;
   whole = sym same ∙ behind-nothing now;
-  written = λ to. Grew-empty (start.sent to) (desk.sent to) to (unsent to);
+  written = λ to. Grew-empty rules (start.sent to) (desk.sent to) to (unsent to);
   counted = fresh.empty;
   served = sym fresh.unserved;
 }
@@ -250,7 +276,9 @@ RunStops-serving stop refused unread coming first before after reads_grow writes
   by_stop (Capture offset why) is = is
   by_stop (Script line why) is = is
   by_stop TooLong is = is
-  by_stop (ReadFault which) is = Rose-earlier (first.read_faults which) (before.read_faults which) (after.read_faults which) (reads_grow which) is.1
+  by_stop (ReadFault input.Capture) is = Rose-earlier (first.read_faults input.Capture) (before.read_faults input.Capture) (after.read_faults input.Capture) (reads_grow input.Capture) is.1
+  by_stop (ReadFault input.Script) is = Rose-earlier (first.read_faults input.Script) (before.read_faults input.Script) (after.read_faults input.Script) (reads_grow input.Script) is.1
+  by_stop (ReadFault input.Rules) is = absurd (is.0 refl)
   by_stop (WriteFault to) is = (is.0, Rose-earlier (first.write_faults to) (before.write_faults to) (after.write_faults to) (writes_grow to) is.2)
   by_stop Usage is = absurd is
   by_stop (Rules why) is = absurd is

@@ -12,7 +12,7 @@ use Rattle.psd_base.specs.declared.stop.Stop.{Stop}
 use Rattle.psd_base.specs.declared.stop.Stop.TheVariants as stops
 use Rattle.admin_rules.specs.RuleFile.{Lists, rules_of}
 use Rattle.capture_reader.proofs.Slices.{take_in_two}
-use Rattle.kvm_program.specs.Rules.{JudgeStops, RulesStop, front_of}
+use Rattle.kvm_program.specs.Rules.{JudgeStops, RulesStop, TakesAtMost, front_of}
 
 -- one piece more
 pub told_more : (items more_items : List ℕ) (count more : ℕ) (first before after : Option (List ℕ))
@@ -67,6 +67,22 @@ taken_whole items count size (Some all) (Some rest) long within told ended = by_
       let over : rest ≡ [] = ended (λ same. absurd (omega (arith, same, less))) in
       let whole : all ≡ part = all_is ∙ (ap (λ (left : List ℕ). part ++ left) over ∙ append-nil part) in
       sym (take_all size all (omega (arith, ap length whole, part_long, less)) ∙ whole)
+
+-- no more was taken than there was room
+pub taken_few : (items : List ℕ) (count size : ℕ) (first now after : Option (List ℕ)) → length items ≡ size → count ≤ size
+    → option_map (λ rest. take count items ++ rest) now ≡ first → after ≡ now → TakesAtMost size first after
+taken_few items count size first now after long within told same = record {
+  taken = take count items;
+  few = omega (arith, length-take-le count items (omega (arith, long, within)), within);
+  moved = sym told ∙ ap (λ (left : Option (List ℕ)). option_map (λ rest. take count items ++ rest) left) (sym same);
+}
+
+-- nothing was taken
+pub taken_none : (limit : ℕ) (left : Option (List ℕ)) → TakesAtMost limit left left
+taken_none limit left = record { taken = []; few = omega arith; moved = by_left left } where
+  by_left : (left : Option (List ℕ)) → left ≡ option_map (λ rest. [] ++ rest) left
+  by_left None = refl
+  by_left (Some rest) = refl
 
 -- a file of too many bytes is told by its front, and any other is its front
 

@@ -12,7 +12,7 @@ use Rattle.psd_base.specs.Desk.{IsAppendedPart, ReadFailed, Told, Touches, Write
 use Rattle.admin_rules.specs.RuleFile.{Lists, rules_of}
 use Rattle.kvm_program.specs.Outlets.{AndFaults, Grew}
 use Rattle.kvm_program.specs.Replay.{EndsUnlessNoMemory, NothingFailed}
-use Rattle.kvm_program.specs.Rules.{RulesAreFaulty}
+use Rattle.kvm_program.specs.Rules.{FewRulesTaken, RulesAreFaulty}
 
 -- the summary of a command that serves no event
 abbrev pub no_summary : Summary
@@ -51,4 +51,6 @@ pub record Checks (result : Result Summary Stop) (before after : Told) : Type 0 
   pub ends : (bytes : List ℕ) → before.left input.Rules ≡ Some bytes → CheckEnds result (rules_of bytes) (before.sent outlet.Report) (after.sent outlet.Report)
   pub stop : IfErr result (CheckStops before after)
   pub complete : (bytes : List ℕ) → before.left input.Rules ≡ Some bytes → IsOk (rules_of bytes) → NothingFailed before after → EndsUnlessNoMemory result
+  -- it takes no more of the rules than shows that they are too big
+  pub few : FewRulesTaken before after
   pub only : OnlyChecks before after

@@ -1,6 +1,8 @@
 pub mod Check
 pub mod Command
+pub mod Console
 pub mod Log
+pub mod OneWay
 pub mod Outlets
 pub mod Progress
 pub mod Replay

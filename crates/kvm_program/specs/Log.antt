@@ -5,6 +5,7 @@ use Rattle.psd_base.specs.declared.console.Note.{Note}
 use Rattle.psd_base.specs.declared.console.Note.TheVariants as note
 use Rattle.psd_base.specs.Event.{Seen}
 use Rattle.psd_base.specs.History.{number_of, onto}
+use Rattle.peripheral_filter.specs.declared.rule.RuleSet.{RuleSet}
 use Rattle.port_transcript.specs.LogLine.{note_text}
 use Rattle.switch_core.specs.Notes.{notes_at}
 
@@ -13,13 +14,13 @@ abbrev pub notes_text : ℕ → List Note → List ℕ
 notes_text tick notes = flat_map (note_text tick) notes
 
 -- what the log says over a history, which is newest first
-abbrev pub log_after : List Seen → List ℕ
-log_after [] = []
-log_after (event ∷ past) = log_after past ++ notes_text event.tick (notes_at event past)
+abbrev pub log_after : RuleSet → List Seen → List ℕ
+log_after rules [] = []
+log_after rules (event ∷ past) = log_after rules past ++ notes_text event.tick (notes_at rules event past)
 
 -- the same over events, which are oldest first
-abbrev pub log_of : List Seen → List ℕ
-log_of events = log_after (onto events [])
+abbrev pub log_of : RuleSet → List Seen → List ℕ
+log_of rules events = log_after rules (onto events [])
 
 -- a port was left
 abbrev pub is_leave : Note → Bool
@@ -46,6 +47,6 @@ is_refusal (note.Accepted plug) = false
 is_refusal (note.Refused plug rule) = true
 
 -- how many notes of a history pass
-abbrev pub noted : (Note → Bool) → List Seen → ℕ
-noted passes [] = 0
-noted passes (event ∷ past) = noted passes past + number_of passes (notes_at event past)
+abbrev pub noted : RuleSet → (Note → Bool) → List Seen → ℕ
+noted rules passes [] = 0
+noted rules passes (event ∷ past) = noted rules passes past + number_of passes (notes_at rules event past)

@@ -19,13 +19,29 @@ Wrote (Err why) before after text = IsAppendedPart before after text
 abbrev pub WroteTo : Outlet → Result (Unit {0}) Stop → Told → Told → List ℕ → Type 0
 WroteTo to result before after text = Wrote result (before.sent to) (after.sent to) text
 
--- the outlets to which events write: the ports and the log
+-- the outlets to which events write: the ports, the console and the log
 abbrev pub IsText : Outlet → Type 0
 IsText (outlet.Port port) = Unit {0}
+IsText outlet.Console = Unit {0}
 IsText outlet.Log = Unit {0}
-IsText outlet.Console = ⊥
 IsText outlet.Report = ⊥
 IsText outlet.Faults = ⊥
+
+-- the outlets of the ports
+abbrev pub IsTranscript : Outlet → Type 0
+IsTranscript (outlet.Port port) = Unit {0}
+IsTranscript outlet.Console = ⊥
+IsTranscript outlet.Log = ⊥
+IsTranscript outlet.Report = ⊥
+IsTranscript outlet.Faults = ⊥
+
+-- the console and the log
+abbrev pub IsOfConsole : Outlet → Type 0
+IsOfConsole (outlet.Port port) = ⊥
+IsOfConsole outlet.Console = Unit {0}
+IsOfConsole outlet.Log = Unit {0}
+IsOfConsole outlet.Report = ⊥
+IsOfConsole outlet.Faults = ⊥
 
 -- these outlets, and the faults, to which a stop writes its line
 abbrev pub AndFaults : (Outlet → Type 0) → Outlet → Type 0
@@ -35,11 +51,19 @@ AndFaults writes to = writes to ⊎ (to ≡ outlet.Faults)
 abbrev pub Untouched : Told → Told → Type 0
 Untouched = Touches NoInput NoOutlet
 
--- nothing is read, and the ports and the log alone are written
+-- nothing is read, and the ports alone are written
+abbrev pub OnlyWritesPorts : Told → Told → Type 0
+OnlyWritesPorts = Touches NoInput IsTranscript
+
+-- nothing is read, and the console and the log alone are written
+abbrev pub OnlyWritesConsole : Told → Told → Type 0
+OnlyWritesConsole = Touches NoInput IsOfConsole
+
+-- nothing is read, and the ports, the console and the log alone are written
 abbrev pub OnlyWritesTexts : Told → Told → Type 0
 OnlyWritesTexts = Touches NoInput IsText
 
--- serving reads the capture and the script, and writes to the ports and the log alone
+-- serving reads the capture and the script, and writes to the ports, the console and the log alone
 abbrev pub OnlyServes : Told → Told → Type 0
 OnlyServes = Touches IsSource IsText
 

@@ -1,5 +1,5 @@
 -- How far a replay came, and what it leaves where it stops.
-use Rattle.std.specs.Prelude.{◌≡◌, ◌≢◌, ℕ, ◌*◌, ◌≤◌, List, [], ◌∷◌, length, Option, Some, None, option_map, IfSome}
+use Rattle.std.specs.Prelude.{◌≡◌, ◌≢◌, ℕ, ◌*◌, ◌<◌, ◌≤◌, List, [], ◌∷◌, length, Option, Some, None, option_map, IfSome}
 use Rattle.psd_base.specs.Port.{IsPort}
 use Rattle.psd_base.specs.History.{onto}
 use Rattle.psd_base.specs.Desk.{IsAppendedPart, ReadFailed, Told, WriteFailed}
@@ -11,6 +11,7 @@ use Rattle.psd_base.specs.declared.outlet.Outlet.{Outlet}
 use Rattle.psd_base.specs.declared.outlet.Outlet.TheVariants as outlet
 use Rattle.psd_base.specs.declared.stop.Stop.{Stop}
 use Rattle.psd_base.specs.declared.stop.Stop.TheVariants.{Usage, Rules, Capture, Script, TooLong, ReadFault, WriteFault, OutOfMemory}
+use Rattle.peripheral_filter.specs.declared.rule.RuleSet.{RuleSet}
 use Rattle.capture_reader.specs.Schedule.{Schedule, in_front}
 use Rattle.capture_reader.specs.Reader.{Reading, rest_told}
 use Rattle.port_transcript.specs.declared.port.TheConstants.{PORT_LINE_SIZE}
@@ -29,30 +30,30 @@ behind [] coming = coming
 behind (event ∷ past) coming = behind past (in_front event coming)
 
 -- the counts are those of a history
-pub record Counts (tally : Tally) (past : List Seen) : Type 0 where
-  pub bytes : (port : ℕ) → IsPort port → bytes_at tally port ≡ length (transcript_after port past)
-  pub left : tally.left ≡ noted is_leave past
-  pub refused : tally.refused ≡ noted is_refusal past
+pub record Counts (rules : RuleSet) (tally : Tally) (past : List Seen) : Type 0 where
+  pub bytes : (port : ℕ) → IsPort port → bytes_at tally port ≡ length (transcript_after rules port past)
+  pub left : tally.left ≡ noted rules is_leave past
+  pub refused : tally.refused ≡ noted rules is_refusal past
 
 -- The events of `past` were served: the switch stands for them, each outlet grew by what they write to it, and they are the
 -- first of what was to come.
-pub record Progress (coming coming_now : Option Schedule) (start now : Told) (switch : Switch) (tally : Tally) : Type 0 where
+pub record Progress (rules : RuleSet) (coming coming_now : Option Schedule) (start now : Told) (switch : Switch) (tally : Tally) : Type 0 where
   pub past : List Seen
-  pub stands : StandsFor switch past
+  pub stands : StandsFor rules switch past
   pub whole : coming ≡ option_map (behind past) coming_now
-  pub written : (to : Outlet) → Grew (start.sent to) (now.sent to) (text_after to past)
-  pub counted : Counts tally past
+  pub written : (to : Outlet) → Grew (start.sent to) (now.sent to) (text_after rules to past)
+  pub counted : Counts rules tally past
   pub served : length past ≡ switch.served
 
 -- the same where the reader has the rest
-abbrev pub ProgressOf : Option Schedule → Told → Reading → Told → Switch → Tally → Type 0
-ProgressOf coming start reader now switch tally = Progress coming (rest_told reader now) start now switch tally
+abbrev pub ProgressOf : RuleSet → Option Schedule → Told → Reading → Told → Switch → Tally → Type 0
+ProgressOf rules coming start reader now switch tally = Progress rules coming (rest_told reader now) start now switch tally
 
 -- All of a schedule was served: it ends without a stop, and each outlet has all of its text.
-pub record Finished (schedule : Schedule) (start after : Told) (switch : Switch) (tally : Tally) : Type 0 where
+pub record Finished (rules : RuleSet) (schedule : Schedule) (start after : Told) (switch : Switch) (tally : Tally) : Type 0 where
   pub whole : schedule.stop ≡ None
-  pub written : (to : Outlet) → Grew (start.sent to) (after.sent to) (text_of to schedule.events)
-  pub counted : Counts tally (onto schedule.events [])
+  pub written : (to : Outlet) → Grew (start.sent to) (after.sent to) (text_of rules to schedule.events)
+  pub counted : Counts rules tally (onto schedule.events [])
   pub served : switch.served ≡ length schedule.events
 
 -- so many events leave room for the counts of one more
@@ -68,6 +69,10 @@ pub record IsReady (reader : Reading) (switch : Switch) (tally : Tally) : Type 0
   pub served : switch.served ≡ reader.served
   pub limit : reader.limit ≤ EVENTS_MAX
   pub room : HasRoom tally switch.served
+
+-- outlets of ports above the last one stay as they were
+abbrev pub PortsAboveStay : ℕ → Told → Told → Type 0
+PortsAboveStay ports before after = (port : ℕ) → ports < port → after.sent (outlet.Port port) ≡ before.sent (outlet.Port port)
 
 -- what a run that stopped wrote to an outlet: all of its text, a part of it, or nothing
 abbrev pub WroteAtStop : Stop → List ℕ → Option (List ℕ) → Option (List ℕ) → Type 0
@@ -93,9 +98,8 @@ ServingStops Usage coming before after = ⊥
 ServingStops (Rules why) coming before after = ⊥
 ServingStops OutOfMemory coming before after = ⊥
 
--- what serves begins: it stands for no event, nothing is counted, and what the reader gives can be served
-pub record IsFresh (reader : Reading) (switch : Switch) (tally : Tally) : Type 0 where
-  pub ready : IsReady reader switch tally
-  pub stands : StandsFor switch []
-  pub empty : Counts tally []
+-- what serves begins: it stands for no event, under these rules, and nothing is counted
+pub record IsFresh (rules : RuleSet) (switch : Switch) (tally : Tally) : Type 0 where
+  pub stands : StandsFor rules switch []
+  pub empty : Counts rules tally []
   pub unserved : switch.served ≡ 0

@@ -1,6 +1,6 @@
 -- What a replay promises.
 use Rattle.std.specs.Prelude.{◌≡◌, ◌≢◌, ◌⊎◌, ℕ, List, Option, Some, None, IfSome, IfOk, IfErr, IsOk, Result, Ok, Err}
-use Rattle.psd_base.specs.Desk.{IsAppendedPart, ReadFailed, Told, Touches, WriteFailed}
+use Rattle.psd_base.specs.Desk.{IsAppendedPart, IsSource, ReadFailed, Told, Touches, WriteFailed}
 use Rattle.psd_base.specs.declared.event.TheConstants.{EVENTS_MAX}
 use Rattle.psd_base.specs.declared.outlet.Input.{Input}
 use Rattle.psd_base.specs.declared.outlet.Input.TheVariants as input
@@ -14,15 +14,16 @@ use Rattle.admin_rules.specs.RuleFile.{Lists, rules_of}
 use Rattle.capture_reader.specs.Merge.{schedule_told}
 use Rattle.capture_reader.specs.Schedule.{Schedule}
 use Rattle.port_transcript.specs.StopLine.{stop_text}
+use Rattle.kvm_program.specs.Console.{console_of}
 use Rattle.kvm_program.specs.Log.{log_of}
 use Rattle.kvm_program.specs.Outlets.{AndFaults, Grew}
-use Rattle.kvm_program.specs.Progress.{WroteAtStop}
+use Rattle.kvm_program.specs.Progress.{PortsAboveStay, WroteAtStop}
 use Rattle.kvm_program.specs.Report.{report_text, summary_of}
-use Rattle.kvm_program.specs.Rules.{RulesAreFaulty}
+use Rattle.kvm_program.specs.Rules.{FewRulesTaken, RulesAreFaulty}
 use Rattle.kvm_program.specs.Run.{Run, run_told}
 use Rattle.kvm_program.specs.Transcript.{transcript_of}
 
--- A port, and the log, get all of their text, or a part of it, or nothing, by how the run ends.
+-- A port, the console, and the log get all of their text, or a part of it, or nothing, by how the run ends.
 abbrev pub TextWritten : Result Summary Stop → List ℕ → Option (List ℕ) → Option (List ℕ) → Type 0
 TextWritten (Ok summary) text before after = Grew before after text
 TextWritten (Err stop) text before after = WroteAtStop stop text before after
@@ -39,21 +40,27 @@ ReportWritten (Err stop) text before after = ReportAtStop stop text before after
 -- What a run over these events writes and answers.
 pub record Serves (result : Result Summary Stop) (run : Run) (before after : Told) : Type 0 where
   -- each port's transcript is that of a one-port switch over the port's own view, all of it or a part by how the run ends
-  pub ports : (port : ℕ) → TextWritten result (transcript_of port run.schedule.events) (before.sent (outlet.Port port)) (after.sent (outlet.Port port))
-  -- the log tells of the self-test and of the selection, all of it or a part in the same way
-  pub log : TextWritten result (log_of run.schedule.events) (before.sent outlet.Log) (after.sent outlet.Log)
+  pub ports : (port : ℕ) → TextWritten result (transcript_of run.rules port run.schedule.events) (before.sent (outlet.Port port)) (after.sent (outlet.Port port))
+  -- nothing is written to a port that the capture doesn't have
+  pub above : PortsAboveStay run.ports before after
+  -- the console has what its peripherals are told, all of it or a part in the same way
+  pub console : TextWritten result (console_of run.rules run.schedule.events) (before.sent outlet.Console) (after.sent outlet.Console)
+  -- the log tells of the self-test, of the peripherals and of the selection, all of it or a part in the same way
+  pub log : TextWritten result (log_of run.rules run.schedule.events) (before.sent outlet.Log) (after.sent outlet.Log)
   -- the report tells of the whole run, and is written at its end alone
-  pub report : ReportWritten result (report_text (summary_of run.ports run.schedule.events)) (before.sent outlet.Report) (after.sent outlet.Report)
-  pub ok : IfOk result (λ summary. (run.schedule.stop ≡ None) × (summary ≡ summary_of run.ports run.schedule.events))
+  pub report : ReportWritten result (report_text (summary_of run.rules run.ports run.schedule.events)) (before.sent outlet.Report) (after.sent outlet.Report)
+  pub ok : IfOk result (λ summary. (run.schedule.stop ≡ None) × (summary ≡ summary_of run.rules run.ports run.schedule.events))
 
 -- Why a replay stops: its rules are refused, its schedule ends so, a read failed, a write failed that isn't that of a fault line, or there
--- was no memory before anything but the rules was read.
+-- was no memory. With the rules, and with no memory, it stops before anything but the rules is read.
 abbrev pub RunStops : Stop → (RulesFault → Type 0) → Type 0 → Option Schedule → Told → Told → Type 0
-RunStops (Rules why) refused unread coming before after = refused why
+RunStops (Rules why) refused unread coming before after = refused why × unread
 RunStops (Capture offset why) refused unread coming before after = IfSome coming (λ schedule. schedule.stop ≡ Some (Capture offset why))
 RunStops (Script line why) refused unread coming before after = IfSome coming (λ schedule. schedule.stop ≡ Some (Script line why))
 RunStops TooLong refused unread coming before after = IfSome coming (λ schedule. schedule.stop ≡ Some TooLong)
-RunStops (ReadFault which) refused unread coming before after = ReadFailed which before after
+RunStops (ReadFault input.Rules) refused unread coming before after = ReadFailed input.Rules before after × unread
+RunStops (ReadFault input.Capture) refused unread coming before after = ReadFailed input.Capture before after
+RunStops (ReadFault input.Script) refused unread coming before after = ReadFailed input.Script before after
 RunStops (WriteFault to) refused unread coming before after = (to ≢ outlet.Faults) × WriteFailed to before after
 RunStops OutOfMemory refused unread coming before after = unread
 RunStops Usage refused unread coming before after = ⊥
@@ -88,16 +95,20 @@ EndsUnlessNoMemory result = IsOk result ⊎ (result ≡ Err OutOfMemory)
 abbrev pub AnyInput : Input → Type 0
 AnyInput input = Unit {0}
 
--- the outlets that a replay writes to: all but the console, and the faults for a stop
+-- the outlets that a replay writes to: all, but to the faults for a stop alone
 abbrev pub IsReplayed : Outlet → Type 0
 IsReplayed (outlet.Port port) = Unit {0}
 IsReplayed outlet.Log = Unit {0}
 IsReplayed outlet.Report = Unit {0}
-IsReplayed outlet.Console = ⊥
+IsReplayed outlet.Console = Unit {0}
 IsReplayed outlet.Faults = ⊥
 
 abbrev pub OnlyReplays : Told → Told → Type 0
 OnlyReplays = Touches AnyInput (AndFaults IsReplayed)
+
+-- once the rules were judged they aren't read, and a run writes no fault line itself
+abbrev pub OnlyRuns : Told → Told → Type 0
+OnlyRuns = Touches IsSource IsReplayed
 
 -- what `replay` promises
 pub record Replays (result : Result Summary Stop) (before after : Told) : Type 0 where
@@ -108,6 +119,8 @@ pub record Replays (result : Result Summary Stop) (before after : Told) : Type 0
   pub stop : IfErr result (λ stop. RunStops stop (RulesAreFaulty before) (IsUnread before after) (schedule_told EVENTS_MAX before) before after)
   pub complete : (run : Run) (bytes : List ℕ) → run_told before ≡ Some run → run.schedule.stop ≡ None → before.left input.Rules ≡ Some bytes
       → IsOk (rules_of bytes) → NothingFailed before after → EndsUnlessNoMemory result
+  -- it takes no more of the rules than shows that they are too big
+  pub few : FewRulesTaken before after
   pub only : OnlyReplays before after
 
 -- the line of a stop was written to the faults, or a part of it where that write failed and its count rose

@@ -5,6 +5,7 @@ use Rattle.psd_base.specs.Event.{Seen}
 use Rattle.psd_base.specs.declared.port.TheConstants.{MAX_PORTS}
 use Rattle.psd_base.specs.declared.summary.Summary.{Summary}
 use Rattle.psd_base.specs.History.{onto}
+use Rattle.peripheral_filter.specs.declared.rule.RuleSet.{RuleSet}
 use Rattle.kvm_program.specs.Log.{is_leave, is_refusal, noted}
 use Rattle.kvm_program.specs.Transcript.{transcript_of}
 
@@ -14,12 +15,18 @@ numbers_from start zero = []
 numbers_from start (suc count) = start ∷ numbers_from (start + 1) count
 
 -- the bytes of each port's transcript
-unfoldable pub transcript_sizes : List Seen → List ℕ
-transcript_sizes events = map (λ port. length (transcript_of port events)) (numbers_from 1 MAX_PORTS)
+unfoldable pub transcript_sizes : RuleSet → List Seen → List ℕ
+transcript_sizes rules events = map (λ port. length (transcript_of rules port events)) (numbers_from 1 MAX_PORTS)
 
 -- the summary of a run over these events
-abbrev pub summary_of : ℕ → List Seen → Summary
-summary_of ports events = record { events = length events; ports = ports; refused = noted is_refusal (onto events []); left = noted is_leave (onto events []); bytes = transcript_sizes events }
+abbrev pub summary_of : RuleSet → ℕ → List Seen → Summary
+summary_of rules ports events = record {
+  events = length events;
+  ports = ports;
+  refused = noted rules is_refusal (onto events []);
+  left = noted rules is_leave (onto events []);
+  bytes = transcript_sizes rules events;
+}
 
 unfoldable pub port_text : ℕ → ℕ → List ℕ
 port_text port count = codes "port " ++ decimal port ++ codes " " ++ decimal count ++ codes "\n"

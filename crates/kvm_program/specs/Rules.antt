@@ -1,5 +1,5 @@
 -- What taking the rules answers.
-use Rattle.std.specs.Prelude.{◌≡◌, ℕ, List, IfSome, Result, Err, take}
+use Rattle.std.specs.Prelude.{◌≡◌, ℕ, ◌≤◌, List, ◌++◌, length, Option, option_map, IfSome, Result, Err, take}
 use Rattle.psd_base.specs.declared.outlet.Input.TheVariants as input
 use Rattle.psd_base.specs.declared.stop.RulesFault.{RulesFault}
 use Rattle.psd_base.specs.declared.stop.Stop.{Stop}
@@ -11,6 +11,16 @@ use Rattle.admin_rules.specs.RuleFile.{Lists, rules_of}
 -- the bytes of the rules that are read
 unfoldable pub front_of : List ℕ → List ℕ
 front_of bytes = take RULES_READ bytes
+
+-- at most so many bytes were taken, from the front
+pub record TakesAtMost (limit : ℕ) (before after : Option (List ℕ)) : Type 0 where
+  pub taken : List ℕ
+  pub few : length taken ≤ limit
+  pub moved : before ≡ option_map (λ rest. taken ++ rest) after
+
+-- at most one byte more is taken of the rules than they may have
+abbrev pub FewRulesTaken : Told → Told → Type 0
+FewRulesTaken before after = TakesAtMost RULES_READ (before.left input.Rules) (after.left input.Rules)
 
 -- the rules have this fault, where the desk tells them
 abbrev pub RulesAreFaulty : Told → RulesFault → Type 0

@@ -14,12 +14,15 @@ use std::{env, fs, io};
 
 mod check;
 mod command;
+mod laws;
 mod open;
 mod outlets;
 mod replay;
 mod report;
 mod rules;
 mod run;
+#[cfg(test)]
+mod sessions;
 mod tally;
 #[cfg(test)]
 mod tests;

@@ -3,15 +3,18 @@ ghost use Rattle.std.specs.Prelude.{◌≡◌, ◌≢◌, ℕ, ◌+◌, ◌^◌,
 ghost use Rattle.psd_base.specs.Port.{IsPort};
 ghost use Rattle.psd_base.specs.Desk.{OnlyWrites, WriteFailed};
 ghost use Rattle.psd_base.specs.History.{number_of};
+ghost use Rattle.port_transcript.specs.ConsoleLine.{order_text};
+ghost use Rattle.switch_core.specs.Gives.{gives_of};
+ghost use Rattle.kvm_program.specs.Console.{orders_text};
 ghost use Rattle.kvm_program.specs.Log.{is_leave, is_refusal, notes_text};
-ghost use Rattle.kvm_program.specs.Outlets.{OnlyWritesTexts, WroteTo, IsTextFault};
+ghost use Rattle.kvm_program.specs.Outlets.{OnlyWritesConsole, OnlyWritesPorts, OnlyWritesTexts, WroteTo, IsTextFault};
 ghost use Rattle.kvm_program.specs.Tally.{bytes_at};
 ghost use Rattle.kvm_program.specs.Texts.{turn_text};
 ghost use Rattle.kvm_program.specs.Transcript.{text_at};
 
 use crate::tally::Tally;
-use port_transcript::{PORT_LINE_SIZE, Text, write_log_line, write_port_line};
-use psd_base::console::{NOTES_MAX, Note, Notes};
+use port_transcript::{PORT_LINE_SIZE, Text, write_console_line, write_log_line, write_port_line};
+use psd_base::console::{NOTES_MAX, Note, Notes, Order, Orders};
 use psd_base::desk::Desk;
 use psd_base::event::Tick;
 use psd_base::line::Line;
@@ -33,8 +36,8 @@ pub fn send<D: Desk>(desk: &mut D, to: &Outlet, bytes: &[u8]) -> Result<(), Stop
     }
 }
 
-/// Writes what one event gave: the line of a turn to its port's transcript, if there is one, and then the notes to the
-/// log. The text is room for them.
+/// Writes what one event gave: the line of a turn to its port's transcript, if there is one, then the orders to the
+/// console, and then the notes to the log. The text is room for them.
 pub fn write_turn<D: Desk>(
     desk: &mut D,
     tick: Tick,
@@ -46,7 +49,7 @@ pub fn write_turn<D: Desk>(
     requires left { tally.old.left + NOTES_MAX < 2 ^ 32 }
     requires refused { tally.old.refused + NOTES_MAX < 2 ^ 32 }
     ensures wrote { (to : Outlet)
-        → WroteTo to result (D.told desk.old) (D.told desk.new) (turn_text to turn.now.line tick turn.now.notes.items) }
+        → WroteTo to result (D.told desk.old) (D.told desk.new) (turn_text to tick (gives_of turn.now)) }
     ensures short { (port : ℕ) → length (text_at port turn.now.line) ≤ PORT_LINE_SIZE }
     ensures stop { IfErr result (IsTextFault (D.told desk.old) (D.told desk.new)) }
     ensures counted { OnOk result ((port : ℕ) → IsPort port → bytes_at tally.new port
@@ -59,7 +62,7 @@ pub fn write_turn<D: Desk>(
     ensures only { OnlyWritesTexts (D.told desk.old) (D.told desk.new) }
 {
     write_line(desk, &turn.line, text, tally)?;
-    write_notes(desk, tick, &turn.notes, text, tally)
+    write_console(desk, tick, turn, text, tally)
 }
 
 /// Writes the line of a turn to its port's transcript, if there is one.
@@ -72,14 +75,13 @@ fn write_line<D: Desk>(
     requires { (port : ℕ) → IsPort port → bytes_at tally.old port + PORT_LINE_SIZE < 2 ^ 64 }
     ensures wrote { (port : ℕ)
         → WroteTo (Outlet.Port port) result (D.told desk.old) (D.told desk.new) (text_at port line.now) }
-    ensures log { (D.told desk.new).sent Outlet.Log ≡ (D.told desk.old).sent Outlet.Log }
     ensures short { (port : ℕ) → length (text_at port line.now) ≤ PORT_LINE_SIZE }
     ensures stop { IfErr result (IsTextFault (D.told desk.old) (D.told desk.new)) }
     ensures counted { OnOk result ((port : ℕ) → IsPort port → bytes_at tally.new port
         ≡ bytes_at tally.old port + length (text_at port line.now)) }
     ensures left { tally.new.left ≡ tally.old.left }
     ensures refused { tally.new.refused ≡ tally.old.refused }
-    ensures only { OnlyWritesTexts (D.told desk.old) (D.told desk.new) }
+    ensures only { OnlyWritesPorts (D.told desk.old) (D.told desk.new) }
 {
     match line {
         None => Ok(()),
@@ -96,9 +98,8 @@ fn send_port<D: Desk>(desk: &mut D, port: PortId, bytes: &[u8]) -> Result<(), St
     ensures wrote { WroteTo (Outlet.Port port) result (D.told desk.old) (D.told desk.new) bytes.now }
     ensures apart { (other : ℕ) → other ≢ port → (D.told desk.new).sent (Outlet.Port other)
         ≡ (D.told desk.old).sent (Outlet.Port other) }
-    ensures log { (D.told desk.new).sent Outlet.Log ≡ (D.told desk.old).sent Outlet.Log }
     ensures stop { IfErr result (IsTextFault (D.told desk.old) (D.told desk.new)) }
-    ensures only { OnlyWritesTexts (D.told desk.old) (D.told desk.new) }
+    ensures only { OnlyWritesPorts (D.told desk.old) (D.told desk.new) }
 {
     send(desk, &Outlet::Port(port), bytes)
 }
@@ -112,19 +113,101 @@ fn write_text<D: Desk>(
 ) -> Result<(), Stop>
     requires { (port : ℕ) → IsPort port → bytes_at tally.old port + length text.now.items < 2 ^ 64 }
     ensures wrote { (other : ℕ)
-        → WroteTo (Outlet.Port other) result (D.told desk.old) (D.told desk.new) (if port == other then text.now.items else []) }
-    ensures log { (D.told desk.new).sent Outlet.Log ≡ (D.told desk.old).sent Outlet.Log }
+        → WroteTo (Outlet.Port other) result (D.told desk.old) (D.told desk.new)
+        (if port == other then text.now.items else []) }
     ensures stop { IfErr result (IsTextFault (D.told desk.old) (D.told desk.new)) }
     ensures counted { OnOk result ((other : ℕ) → IsPort other
         → bytes_at tally.new other
         ≡ bytes_at tally.old other + length (if port == other then text.now.items else [])) }
     ensures left { tally.new.left ≡ tally.old.left }
     ensures refused { tally.new.refused ≡ tally.old.refused }
-    ensures only { OnlyWritesTexts (D.told desk.old) (D.told desk.new) }
+    ensures only { OnlyWritesPorts (D.told desk.old) (D.told desk.new) }
 {
     send_port(desk, port, text.as_slice())?;
     tally.add(port, text.len());
     Ok(())
+}
+
+/// Writes the orders of a turn to the console, and then its notes to the log.
+fn write_console<D: Desk>(
+    desk: &mut D,
+    tick: Tick,
+    turn: &Turn,
+    text: &mut Text,
+    tally: &mut Tally,
+) -> Result<(), Stop>
+    requires left { tally.old.left + NOTES_MAX < 2 ^ 32 }
+    requires refused { tally.old.refused + NOTES_MAX < 2 ^ 32 }
+    ensures console { WroteTo Outlet.Console result (D.told desk.old) (D.told desk.new)
+        (orders_text tick turn.now.orders.items) }
+    ensures log { WroteTo Outlet.Log result (D.told desk.old) (D.told desk.new)
+        (notes_text tick turn.now.notes.items) }
+    ensures stop { IfErr result (IsTextFault (D.told desk.old) (D.told desk.new)) }
+    ensures counted { tally.new.bytes ≡ tally.old.bytes }
+    ensures left { OnOk result (tally.new.left ≡ tally.old.left + number_of is_leave turn.now.notes.items) }
+    ensures refused { OnOk result (tally.new.refused
+        ≡ tally.old.refused + number_of is_refusal turn.now.notes.items) }
+    ensures few_left { OnOk result (tally.new.left ≤ tally.old.left + NOTES_MAX) }
+    ensures few_refused { OnOk result (tally.new.refused ≤ tally.old.refused + NOTES_MAX) }
+    ensures only { OnlyWritesConsole (D.told desk.old) (D.told desk.new) }
+{
+    write_orders(desk, tick, &turn.orders, text)?;
+    write_notes(desk, tick, &turn.notes, text, tally)
+}
+
+/// Writes the orders of an event to the console, if there are some.
+fn write_orders<D: Desk>(
+    desk: &mut D,
+    tick: Tick,
+    orders: &Orders,
+    text: &mut Text,
+) -> Result<(), Stop>
+    ensures wrote { WroteTo Outlet.Console result (D.told desk.old) (D.told desk.new)
+        (orders_text tick orders.now.items) }
+    ensures stop { IfErr result (IsTextFault (D.told desk.old) (D.told desk.new)) }
+    ensures only { OnlyWrites Outlet.Console (D.told desk.old) (D.told desk.new) }
+{
+    if orders.is_empty() {
+        return Ok(());
+    }
+    write_each(desk, tick, orders.as_slice(), text)
+}
+
+/// Writes orders to the console, each by a write of its own: the text has no room for all of them.
+#[inline(never)]
+fn write_each<D: Desk>(
+    desk: &mut D,
+    tick: Tick,
+    orders: &[Order],
+    text: &mut Text,
+) -> Result<(), Stop>
+    ensures wrote { WroteTo Outlet.Console result (D.told desk.old) (D.told desk.new)
+        (orders_text tick orders.now) }
+    ensures stop { IfErr result (IsTextFault (D.told desk.old) (D.told desk.new)) }
+    ensures only { OnlyWrites Outlet.Console (D.told desk.old) (D.told desk.new) }
+{
+    for order in orders {
+        write_order(desk, tick, order, text)?;
+    }
+    Ok(())
+}
+
+/// Writes one order to the console.
+fn write_order<D: Desk>(
+    desk: &mut D,
+    tick: Tick,
+    order: &Order,
+    text: &mut Text,
+) -> Result<(), Stop>
+    ensures wrote { WroteTo Outlet.Console result (D.told desk.old) (D.told desk.new)
+        (order_text tick order.now) }
+    ensures stop { IfErr result (λ stop. stop ≡ Stop.WriteFault Outlet.Console) }
+    ensures failed { OnErr result (WriteFailed Outlet.Console (D.told desk.old) (D.told desk.new)) }
+    ensures only { OnlyWrites Outlet.Console (D.told desk.old) (D.told desk.new) }
+{
+    text.clear();
+    write_console_line(tick, order, text);
+    send(desk, &Outlet::Console, text.as_slice())
 }
 
 /// Writes the notes of an event to the log, if there are some.
@@ -137,17 +220,17 @@ fn write_notes<D: Desk>(
 ) -> Result<(), Stop>
     requires left { tally.old.left + NOTES_MAX < 2 ^ 32 }
     requires refused { tally.old.refused + NOTES_MAX < 2 ^ 32 }
-    ensures wrote { WroteTo Outlet.Log result (D.told desk.old) (D.told desk.new) (notes_text tick notes.now.items) }
-    ensures ports { (port : ℕ) → (D.told desk.new).sent (Outlet.Port port)
-        ≡ (D.told desk.old).sent (Outlet.Port port) }
-    ensures stop { IfErr result (IsTextFault (D.told desk.old) (D.told desk.new)) }
-    ensures counted { (port : ℕ) → bytes_at tally.new port ≡ bytes_at tally.old port }
+    ensures wrote { WroteTo Outlet.Log result (D.told desk.old) (D.told desk.new)
+        (notes_text tick notes.now.items) }
+    ensures stop { IfErr result (λ stop. stop ≡ Stop.WriteFault Outlet.Log) }
+    ensures failed { OnErr result (WriteFailed Outlet.Log (D.told desk.old) (D.told desk.new)) }
+    ensures counted { tally.new.bytes ≡ tally.old.bytes }
     ensures left { OnOk result (tally.new.left ≡ tally.old.left + number_of is_leave notes.now.items) }
     ensures refused { OnOk result (tally.new.refused
         ≡ tally.old.refused + number_of is_refusal notes.now.items) }
     ensures few_left { OnOk result (tally.new.left ≤ tally.old.left + NOTES_MAX) }
     ensures few_refused { OnOk result (tally.new.refused ≤ tally.old.refused + NOTES_MAX) }
-    ensures only { OnlyWritesTexts (D.told desk.old) (D.told desk.new) }
+    ensures only { OnlyWrites Outlet.Log (D.told desk.old) (D.told desk.new) }
 {
     if notes.is_empty() {
         return Ok(());

@@ -2,12 +2,11 @@
 ghost use Rattle.std.specs.Prelude.{◌≡◌, ◌≢◌, ℕ, ◌+◌, ◌*◌, ◌^◌, ◌<◌, ◌≤◌, List, [], ◌∷◌, length, Option, option_map, IfSome, IfOk, IfErr, OnOk, OnErr};
 ghost use Rattle.psd_base.specs.Port.{IsPort};
 ghost use Rattle.psd_base.specs.Desk.{Told};
+ghost use Rattle.peripheral_filter.specs.declared.rule.RuleSet.{RuleSet};
 ghost use Rattle.capture_reader.specs.Reader.{rest_told};
 ghost use Rattle.switch_core.specs.StandsFor.{StandsFor, port_total};
-ghost use Rattle.switch_core.specs.Lines.{line_at};
-ghost use Rattle.switch_core.specs.Notes.{notes_at};
-ghost use Rattle.psd_base.specs.History.{number_of, onto};
-ghost use Rattle.kvm_program.specs.Log.{is_leave, is_refusal};
+ghost use Rattle.switch_core.specs.Gives.{gives_at, gives_of};
+ghost use Rattle.psd_base.specs.History.{onto};
 ghost use Rattle.kvm_program.specs.Outlets.{OnlyServes, OnlyWritesTexts, WroteTo, IsTextFault};
 ghost use Rattle.kvm_program.specs.Tally.{bytes_at};
 ghost use Rattle.kvm_program.specs.Texts.{step_text, text_of};
@@ -37,13 +36,14 @@ impl Server {
     ghost use Rattle.psd_base.specs.Event.{Seen, seen, happening_of, HappensWithin};
     ghost use Rattle.std.specs.Prelude.{Some, None, Ok, true, false};
     ghost use Rattle.capture_reader.specs.Schedule.{Schedule, over};
-    ghost use Rattle.kvm_program.specs.Progress.{Counts, ProgressOf, Finished, HasRoom, IsReady, WroteAtStop, ServingStops};
+    ghost use Rattle.kvm_program.specs.Progress.{Counts, ProgressOf, Finished, HasRoom, IsReady, PortsAboveStay, WroteAtStop, ServingStops};
     ghost use Rattle.kvm_program.specs.Report.{summary_of};
 
     /// What serves with this switch, before any event.
     pub fn new(switch: Switch) -> Server
         ensures switch { result.switch ≡ switch }
-        ensures empty { Counts result.tally [] }
+        ensures empty { (rules : RuleSet) → Counts rules result.tally [] }
+        ensures room { HasRoom result.tally result.switch.served }
     {
         Server {
             switch,
@@ -56,8 +56,8 @@ impl Server {
     /// The summary of a run over all events of a capture with so many ports.
     pub fn summary(&self, ports: u8) -> Summary
         ensures ports { result.ports ≡ ports }
-        ensures counts { (events : List Seen) → self.now.switch.served ≡ length events
-            → Counts self.now.tally (onto events []) → result ≡ summary_of ports events }
+        ensures counts { (rules : RuleSet) (events : List Seen) → self.now.switch.served ≡ length events
+            → Counts rules self.now.tally (onto events []) → result ≡ summary_of rules ports events }
     {
         Summary {
             events: self.switch.served(),
@@ -69,16 +69,19 @@ impl Server {
     }
 
     /// Serves one event, and writes what it gives.
+    #[inline(always)]
     pub fn serve<D: Desk>(&mut self, desk: &mut D, event: &Event) -> Result<(), Stop>
         requires known { HappensWithin (port_total self.old.switch) (happening_of event.now.what) }
         requires few { self.old.switch.served < EVENTS_MAX }
         requires room { HasRoom self.old.tally self.old.switch.served }
-        ensures stands { (past : List Seen) → StandsFor self.old.switch past
-            → StandsFor self.new.switch (seen event.now ∷ past) }
-        ensures wrote { (past : List Seen) → StandsFor self.old.switch past → (to : Outlet) →
-            WroteTo to result (D.told desk.old) (D.told desk.new) (step_text to (seen event.now) past) }
-        ensures counted { (past : List Seen) → StandsFor self.old.switch past → Counts self.old.tally past
-            → OnOk result (Counts self.new.tally (seen event.now ∷ past)) }
+        ensures stands { (rules : RuleSet) (past : List Seen) → StandsFor rules self.old.switch past
+            → StandsFor rules self.new.switch (seen event.now ∷ past) }
+        ensures wrote { (rules : RuleSet) (past : List Seen) → StandsFor rules self.old.switch past
+            → (to : Outlet) → WroteTo to result (D.told desk.old) (D.told desk.new)
+            (step_text rules to (seen event.now) past) }
+        ensures counted { (rules : RuleSet) (past : List Seen) → StandsFor rules self.old.switch past
+            → Counts rules self.old.tally past
+            → OnOk result (Counts rules self.new.tally (seen event.now ∷ past)) }
         ensures room { OnOk result (HasRoom self.new.tally self.new.switch.served) }
         ensures served { self.new.switch.served ≡ self.old.switch.served + 1 }
         ensures ports { port_total self.new.switch ≡ port_total self.old.switch }
@@ -103,41 +106,50 @@ impl Server {
             × (reader.new.served ≤ reader.old.limit) }
         ensures same { OnOk result ((reader.new.limit ≡ reader.old.limit)
             × (reader.new.ports ≡ reader.old.ports)) }
-        ensures going { result ≡ Ok true → (coming : Option Schedule) (start : Told) →
-            ProgressOf coming start reader.old (D.told desk.old) self.old.switch self.old.tally →
-            ProgressOf coming start reader.new (D.told desk.new) self.new.switch self.new.tally }
+        ensures going { result ≡ Ok true → (rules : RuleSet) (coming : Option Schedule) (start : Told) →
+            ProgressOf rules coming start reader.old (D.told desk.old) self.old.switch self.old.tally →
+            ProgressOf rules coming start reader.new (D.told desk.new) self.new.switch self.new.tally }
         ensures ended { result ≡ Ok false → IfSome (rest_told reader.old (D.told desk.old)) (λ left. left
             ≡ over None) }
         ensures idle { result ≡ Ok false → ((outlet : Outlet)
             → (D.told desk.new).sent outlet ≡ (D.told desk.old).sent outlet)
             × (self.new.switch ≡ self.old.switch) × (self.new.tally ≡ self.old.tally) }
-        ensures written { IfErr result (λ stop. (schedule : Schedule) (start : Told) (to : Outlet) →
-            ProgressOf (Some schedule) start reader.old (D.told desk.old) self.old.switch self.old.tally →
-            WroteAtStop stop (text_of to schedule.events) (start.sent to) ((D.told desk.new).sent to)) }
-        ensures stop { IfErr result (λ stop. (coming : Option Schedule) (start : Told) →
-            ProgressOf coming start reader.old (D.told desk.old) self.old.switch self.old.tally →
+        ensures written { IfErr result (λ stop. (rules : RuleSet) (schedule : Schedule) (start : Told)
+            (to : Outlet) → ProgressOf rules (Some schedule) start reader.old (D.told desk.old)
+            self.old.switch self.old.tally → WroteAtStop stop (text_of rules to schedule.events)
+            (start.sent to) ((D.told desk.new).sent to)) }
+        ensures above { (rules : RuleSet) (coming : Option Schedule) (start : Told) →
+            ProgressOf rules coming start reader.old (D.told desk.old) self.old.switch self.old.tally →
+            PortsAboveStay reader.old.ports (D.told desk.old) (D.told desk.new) }
+        ensures stop { IfErr result (λ stop. (rules : RuleSet) (coming : Option Schedule) (start : Told) →
+            ProgressOf rules coming start reader.old (D.told desk.old) self.old.switch self.old.tally →
             ServingStops stop coming (D.told desk.old) (D.told desk.new)) }
         ensures only { OnlyServes (D.told desk.old) (D.told desk.new) }
     {
         if !reader.advance(desk)? {
             return Ok(false);
         }
-        let event = reader.event_ref();
-        self.serve(desk, event)?;
+        let event = reader.event();
+        self.serve(desk, &event)?;
         Ok(true)
     }
 
     /// Serves every event of the reader.
     pub fn serve_all<D: Desk>(&mut self, reader: &mut Reader, desk: &mut D) -> Result<(), Stop>
         requires { IsReady reader.old self.old.switch self.old.tally }
-        ensures finished { OnOk result ((schedule : Schedule) (start : Told) →
-            ProgressOf (Some schedule) start reader.old (D.told desk.old) self.old.switch self.old.tally →
-            Finished schedule start (D.told desk.new) self.new.switch self.new.tally) }
-        ensures written { IfErr result (λ stop. (schedule : Schedule) (start : Told) (to : Outlet) →
-            ProgressOf (Some schedule) start reader.old (D.told desk.old) self.old.switch self.old.tally →
-            WroteAtStop stop (text_of to schedule.events) (start.sent to) ((D.told desk.new).sent to)) }
-        ensures stop { IfErr result (λ stop. (coming : Option Schedule) (start : Told) →
-            ProgressOf coming start reader.old (D.told desk.old) self.old.switch self.old.tally →
+        ensures finished { OnOk result ((rules : RuleSet) (schedule : Schedule) (start : Told) →
+            ProgressOf rules (Some schedule) start reader.old (D.told desk.old)
+            self.old.switch self.old.tally →
+            Finished rules schedule start (D.told desk.new) self.new.switch self.new.tally) }
+        ensures written { IfErr result (λ stop. (rules : RuleSet) (schedule : Schedule) (start : Told)
+            (to : Outlet) → ProgressOf rules (Some schedule) start reader.old (D.told desk.old)
+            self.old.switch self.old.tally → WroteAtStop stop (text_of rules to schedule.events)
+            (start.sent to) ((D.told desk.new).sent to)) }
+        ensures above { (rules : RuleSet) (coming : Option Schedule) (start : Told) →
+            ProgressOf rules coming start reader.old (D.told desk.old) self.old.switch self.old.tally →
+            PortsAboveStay reader.old.ports (D.told desk.old) (D.told desk.new) }
+        ensures stop { IfErr result (λ stop. (rules : RuleSet) (coming : Option Schedule) (start : Told) →
+            ProgressOf rules coming start reader.old (D.told desk.old) self.old.switch self.old.tally →
             ServingStops stop coming (D.told desk.old) (D.told desk.new)) }
         ensures only { OnlyServes (D.told desk.old) (D.told desk.new) }
     {

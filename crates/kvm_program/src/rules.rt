@@ -2,7 +2,7 @@
 ghost use Rattle.std.specs.Prelude.{◌≡◌, ◌≢◌, ℕ, ◌+◌, ◌<◌, ◌≤◌, ◌++◌, List, [], length, take, option_map, Ok, Err, IfOk, IfErr, IfSome, OnErr, OnOk};
 ghost use Rattle.psd_base.specs.Desk.{OnlyReads};
 ghost use Rattle.admin_rules.specs.RuleFile.{lists_of, rules_of};
-ghost use Rattle.kvm_program.specs.Rules.{FileStops, JudgeStops, RulesStop, front_of};
+ghost use Rattle.kvm_program.specs.Rules.{FewRulesTaken, FileStops, JudgeStops, RulesStop, TakesAtMost, front_of};
 
 use admin_rules::{RULES_FILE_SIZE, read_rules};
 use capture_reader::read_behind;
@@ -20,6 +20,7 @@ pub fn take_rules<D: Desk>(alloc: Global, desk: &mut D) -> Result<RuleSet, Stop>
     ensures rules { IfOk result (λ rules. IfSome ((D.told desk.old).left Input.Rules)
         (λ bytes. rules_of bytes ≡ Ok (lists_of rules))) }
     ensures stop { IfErr result (RulesStop (D.told desk.old) (D.told desk.new)) }
+    ensures few { FewRulesTaken (D.told desk.old) (D.told desk.new) }
     ensures only { OnlyReads Input.Rules (D.told desk.old) (D.told desk.new) }
 {
     let bytes = read_rule_file(alloc, desk)?;
@@ -43,6 +44,7 @@ fn read_rule_file<D: Desk>(alloc: Global, desk: &mut D) -> Result<Vec<u8>, Stop>
     ensures bytes { IfOk result (λ bytes. IfSome ((D.told desk.old).left Input.Rules) (λ all. bytes.items
         ≡ front_of all)) }
     ensures stop { IfErr result (FileStops (D.told desk.old) (D.told desk.new)) }
+    ensures few { FewRulesTaken (D.told desk.old) (D.told desk.new) }
     ensures only { OnlyReads Input.Rules (D.told desk.old) (D.told desk.new) }
 {
     match room_for_rules(alloc) {
@@ -63,6 +65,8 @@ fn read_into<D: Desk>(desk: &mut D, room: Vec<u8>) -> Result<Vec<u8>, Stop>
     ensures bytes { IfOk result (λ bytes. IfSome ((D.told desk.old).left Input.Rules) (λ all. bytes.items
         ≡ take (length room.items) all)) }
     ensures stop { IfErr result (FileStops (D.told desk.old) (D.told desk.new)) }
+    ensures few { TakesAtMost (length room.items) ((D.told desk.old).left Input.Rules)
+        ((D.told desk.new).left Input.Rules) }
     ensures only { OnlyReads Input.Rules (D.told desk.old) (D.told desk.new) }
 {
     let mut bytes = room;
@@ -77,6 +81,8 @@ fn fill<D: Desk>(desk: &mut D, into: &mut [u8]) -> Result<usize, Stop>
     ensures bytes { IfOk result (λ count. IfSome ((D.told desk.old).left Input.Rules)
         (λ all. take count into.new ≡ take (length into.old) all)) }
     ensures stop { IfErr result (FileStops (D.told desk.old) (D.told desk.new)) }
+    ensures few { TakesAtMost (length into.old) ((D.told desk.old).left Input.Rules)
+        ((D.told desk.new).left Input.Rules) }
     ensures only { OnlyReads Input.Rules (D.told desk.old) (D.told desk.new) }
 {
     let mut count = 0;

@@ -1,17 +1,18 @@
 //! A whole run: from the command's words to the report.
-ghost use Rattle.std.specs.Prelude.{◌≡◌, ◌≢◌, ℕ, ◌≤◌, Some, None, Ok, Err, IfSome, IfOk, IfErr, OnOk, OnErr};
+ghost use Rattle.std.specs.Prelude.{◌≡◌, ◌≢◌, ℕ, ◌≤◌, [], Some, None, Ok, Err, IfSome, IfOk, IfErr, OnOk, OnErr};
 ghost use Rattle.psd_base.specs.Desk.{NoInput, OnlyWrites, Touches, WriteFailed};
 ghost use Rattle.psd_base.specs.Port.{IsPort};
+ghost use Rattle.peripheral_filter.specs.declared.rule.RuleSet.{RuleSet};
 ghost use Rattle.capture_reader.specs.Reader.{rest_told};
 ghost use Rattle.capture_reader.specs.Merge.{schedule_told};
 ghost use Rattle.capture_reader.specs.Schedule.{Schedule};
 ghost use Rattle.kvm_program.specs.Check.{Checks};
 ghost use Rattle.kvm_program.specs.Command.{words_of};
 ghost use Rattle.kvm_program.specs.Outlets.{OnlyServes, WroteTo};
-ghost use Rattle.kvm_program.specs.Progress.{Finished, IsFresh, WroteAtStop};
-ghost use Rattle.kvm_program.specs.Replay.{FaultWritten, FaultsWritten, IsUnread, OnlyReplays, Replays, RunStops, Serves};
+ghost use Rattle.kvm_program.specs.Progress.{Finished, IsFresh, IsReady, PortsAboveStay, WroteAtStop};
+ghost use Rattle.kvm_program.specs.Replay.{FaultWritten, FaultsWritten, IsUnread, OnlyRuns, Replays, RunStops, Serves};
 ghost use Rattle.kvm_program.specs.Report.{report_text};
-ghost use Rattle.kvm_program.specs.Run.{Run, run_told};
+ghost use Rattle.kvm_program.specs.Run.{Run, run_under};
 ghost use Rattle.kvm_program.specs.Texts.{text_of};
 
 use crate::check::check;
@@ -22,6 +23,7 @@ use crate::replay::Server;
 use crate::report::report;
 use crate::rules::take_rules;
 use capture_reader::Reader;
+use peripheral_filter::RuleSet;
 use port_transcript::stop_line;
 use psd_base::desk::Desk;
 use psd_base::event::EVENTS_MAX;
@@ -35,14 +37,20 @@ use switch_core::Switch;
 
 /// Serves all events.
 fn serve_events<D: Desk>(desk: &mut D, reader: &mut Reader, server: &mut Server) -> Result<(), Stop>
-    requires { IsFresh reader.old server.old.switch server.old.tally }
-    ensures finished { OnOk result ((schedule : Schedule) → rest_told reader.old (D.told desk.old)
-        ≡ Some schedule →
-        Finished schedule (D.told desk.old) (D.told desk.new) server.new.switch server.new.tally) }
-    ensures written { IfErr result (λ stop. (schedule : Schedule) (to : Outlet)
-        → rest_told reader.old (D.told desk.old) ≡ Some schedule →
-        WroteAtStop stop (text_of to schedule.events) ((D.told desk.old).sent to) ((D.told desk.new).sent to)) }
-    ensures stop { IfErr result (λ stop. RunStops stop
+    requires { IsReady reader.old server.old.switch server.old.tally }
+    ensures finished { OnOk result ((rules : RuleSet) (schedule : Schedule)
+        → IsFresh rules server.old.switch server.old.tally
+        → rest_told reader.old (D.told desk.old) ≡ Some schedule
+        → Finished rules schedule (D.told desk.old) (D.told desk.new) server.new.switch server.new.tally) }
+    ensures written { IfErr result (λ stop. (rules : RuleSet) (schedule : Schedule) (to : Outlet)
+        → IsFresh rules server.old.switch server.old.tally
+        → rest_told reader.old (D.told desk.old) ≡ Some schedule
+        → WroteAtStop stop (text_of rules to schedule.events) ((D.told desk.old).sent to)
+        ((D.told desk.new).sent to)) }
+    ensures above { (rules : RuleSet) → IsFresh rules server.old.switch server.old.tally
+        → PortsAboveStay reader.old.ports (D.told desk.old) (D.told desk.new) }
+    ensures stop { IfErr result (λ stop. (rules : RuleSet)
+        → IsFresh rules server.old.switch server.old.tally → RunStops stop
         (λ _. ⊥) ⊥ (rest_told reader.old (D.told desk.old)) (D.told desk.old) (D.told desk.new)) }
     ensures only { OnlyServes (D.told desk.old) (D.told desk.new) }
 {
@@ -65,13 +73,16 @@ fn write_report<D: Desk>(desk: &mut D, summary: &Summary) -> Result<(), Stop>
 
 /// Serves all events, and writes the report.
 fn run<D: Desk>(desk: &mut D, reader: &mut Reader, server: &mut Server) -> Result<Summary, Stop>
-    requires { IsFresh reader.old server.old.switch server.old.tally }
-    ensures serves { (schedule : Schedule) → rest_told reader.old (D.told desk.old) ≡ Some schedule →
-        Serves result (record { ports = reader.old.ports; schedule = schedule }) (D.told desk.old) (D.told desk.new) }
-    ensures stop { IfErr result (λ stop. RunStops stop
+    requires { IsReady reader.old server.old.switch server.old.tally }
+    ensures serves { (rules : RuleSet) (schedule : Schedule)
+        → IsFresh rules server.old.switch server.old.tally
+        → rest_told reader.old (D.told desk.old) ≡ Some schedule
+        → Serves result (record { rules = rules; ports = reader.old.ports; schedule = schedule })
+        (D.told desk.old) (D.told desk.new) }
+    ensures stop { IfErr result (λ stop. (rules : RuleSet)
+        → IsFresh rules server.old.switch server.old.tally → RunStops stop
         (λ _. ⊥) ⊥ (rest_told reader.old (D.told desk.old)) (D.told desk.old) (D.told desk.new)) }
-    ensures faults { (D.told desk.new).sent Outlet.Faults ≡ (D.told desk.old).sent Outlet.Faults }
-    ensures only { OnlyReplays (D.told desk.old) (D.told desk.new) }
+    ensures only { OnlyRuns (D.told desk.old) (D.told desk.new) }
 {
     let ports = reader.ports();
     serve_events(desk, reader, server)?;
@@ -80,16 +91,15 @@ fn run<D: Desk>(desk: &mut D, reader: &mut Reader, server: &mut Server) -> Resul
     Ok(summary)
 }
 
-/// Replays the capture and the script from their first bytes. All memory is taken before they are read.
-fn replay_events<D: Desk>(alloc: Global, desk: &mut D) -> Result<Summary, Stop>
-    ensures serves { (run : Run) → run_told (D.told desk.old) ≡ Some run
+/// Replays the capture and the script under these rules, from their first bytes. All memory is taken before they are read.
+fn replay_events<D: Desk>(alloc: Global, rules: RuleSet, desk: &mut D) -> Result<Summary, Stop>
+    ensures serves { (run : Run) → run_under rules (D.told desk.old) ≡ Some run
         → Serves result run (D.told desk.old) (D.told desk.new) }
     ensures stop { IfErr result (λ stop. RunStops stop (λ _. ⊥) (IsUnread (D.told desk.old) (D.told desk.new))
         (schedule_told EVENTS_MAX (D.told desk.old)) (D.told desk.old) (D.told desk.new)) }
-    ensures faults { (D.told desk.new).sent Outlet.Faults ≡ (D.told desk.old).sent Outlet.Faults }
-    ensures only { OnlyReplays (D.told desk.old) (D.told desk.new) }
+    ensures only { OnlyRuns (D.told desk.old) (D.told desk.new) }
 {
-    let switch = match Switch::new(alloc, MAX_PORTS) {
+    let switch = match Switch::new(alloc, rules, MAX_PORTS) {
         Ok(switch) => switch,
         Err(_) => return Err(Stop::OutOfMemory),
     };
@@ -104,8 +114,8 @@ fn replay<D: Desk>(alloc: Global, desk: &mut D) -> Result<Summary, Stop>
     ensures promise { Replays result (D.told desk.old) (D.told desk.new) }
     ensures faults { (D.told desk.new).sent Outlet.Faults ≡ (D.told desk.old).sent Outlet.Faults }
 {
-    let _rules = take_rules(alloc, desk)?;
-    replay_events(alloc, desk)
+    let rules = take_rules(alloc, desk)?;
+    replay_events(alloc, rules, desk)
 }
 
 /// Does what the words say, and writes no fault line.
@@ -128,9 +138,10 @@ fn obey<D: Desk>(alloc: Global, words: &Words, desk: &mut D) -> Result<Summary, 
 /// Does what the words of the command line say.
 ///
 /// `replay` judges the rules, serves the events of the capture and of the button script in the order of their ticks, and
-/// writes each computer's transcript and the log. Whatever is replayed, a computer's transcript is what a switch with
-/// one port answers to that computer's own acts, the results of the self-test and the moments at which it is selected; a
-/// replay that stops early writes a part of it, from its front. `check` judges the rules alone.
+/// writes each computer's transcript, what the peripherals at the console are told, and the log. Whatever is replayed, a
+/// computer's transcript is what a switch with one port answers to that computer's own acts, the results of the self-test
+/// and the moments at which it is selected; a replay that stops early writes a part of it, from its front. `check` judges
+/// the rules alone.
 pub fn kvm<D: Desk>(alloc: Global, words: &Words, desk: &mut D) -> Result<Summary, Stop>
     // What each command promises.
     ensures replay { words.now ≡ words_of Command.Replay

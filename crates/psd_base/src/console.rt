@@ -71,6 +71,22 @@ pub enum Order {
     Job(Job),
 }
 
+impl Default for Order {
+    /// An order to be written over.
+    fn default() -> Order {
+        Order::Off {
+            plug: Plug::Keyboard,
+            life: 0,
+        }
+    }
+}
+
+/// How many orders one event gives at most.
+pub const ORDERS_MAX: usize = 8;
+
+/// The orders of one event, in their order.
+pub type Orders = ArrayVec<Order, ORDERS_MAX>;
+
 /// What the log says.
 #[derive(Clone, Copy, Debug, Default, PartialEq, Eq)]
 pub enum Note {

@@ -28,7 +28,8 @@ pub mod words;
 
 pub use act::{Act, Answer, Side};
 pub use console::{
-    CHECKS, Job, JobKind, NOTES_MAX, Note, Notes, Order, Panel, Plug, Reason, RuleName,
+    CHECKS, Job, JobKind, NOTES_MAX, Note, Notes, ORDERS_MAX, Order, Orders, Panel, Plug, Reason,
+    RuleName,
 };
 pub use desk::{Desk, DeskFailed};
 pub use event::{EVENTS_MAX, Event, Tick, What};

@@ -30,7 +30,8 @@ impl Setup {
 
     /// The eight bytes as they come on the bus.
     pub fn bytes(&self) -> [u8; 8]
-        ensures { result ≡ setup_bytes self.now }
+        ensures bytes { result ≡ setup_bytes self.now }
+        ensures back { setup_of result ≡ self.now }
     {
         let value = self.value.to_le_bytes();
         let index = self.index.to_le_bytes();

@@ -5,9 +5,14 @@ use Rattle.fail_secure.specs.HealthChange.{is_alive}
 use Rattle.selector.specs.declared.choice.Choice.{Choice}
 use Rattle.selector.specs.declared.choice.Choice.TheVariants.{Nobody, Target, Selected}
 use Rattle.selector.specs.Choice.{Look, chosen, choice_after, move_of, selected_in}
-use Rattle.selector.specs.Moments.{Moment, Ticked}
-use Rattle.switch_core.specs.Chosen.{health_at, selection_moments, selected_at, move_at}
-use Rattle.switch_core.specs.Notes.{move_notes, selection_notes}
+use Rattle.selector.specs.Moments.{Ticked}
+use Rattle.peripheral_filter.specs.declared.rule.RuleSet.{RuleSet}
+use Rattle.psd_base.specs.Event.{TimePasses}
+use Rattle.switch_core.specs.FrontEvents.{FrontEvent, front_event}
+use Rattle.switch_core.specs.Peripherals.{shows_nothing}
+use Rattle.switch_core.specs.FrontHealth.{health_at}
+use Rattle.switch_core.specs.Chosen.{moments_in, selected_at, move_at}
+use Rattle.switch_core.specs.Notes.{move_notes, selection_notes, selector_notes}
 
 is_somebody : (port : ℕ) (settled : Bool) → cond settled (Selected port) (Target port) ≢ Nobody
 is_somebody port true same = cc
@@ -40,12 +45,12 @@ move_notes-is (Selected left) (Selected port) stays = by_same (nat_eq left port)
   by_same false is = rw is refl
 
 -- and so are those of a clock event, which moves the selection while the switch is alive
-pub move_notes-at : (past : List Moment) (tick : ℕ) (all_up : Bool)
-    → move_notes (move_at past tick all_up) ≡ selection_notes (selected_at past) (selected_at (Ticked tick all_up ∷ past))
-move_notes-at past tick all_up = by_alive (is_alive (health_at past)) refl where
+pub move_notes-at : (rules : RuleSet) (past : List FrontEvent) (tick : ℕ)
+    → move_notes (move_at rules tick past) ≡ selector_notes rules tick TimePasses past
+move_notes-at rules past tick = by_alive (is_alive (health_at past)) refl where
   by_alive : (alive : Bool) → is_alive (health_at past) ≡ alive
-      → move_notes (move_at past tick all_up) ≡ selection_notes (selected_at past) (selected_at (Ticked tick all_up ∷ past))
+      → move_notes (move_at rules tick past) ≡ selection_notes (selected_at rules past) (selected_at rules (front_event tick TimePasses ∷ past))
   by_alive false is = rw is refl
   by_alive true is =
-      rw is (move_notes-is (choice_after (selection_moments past)) (choice_after (Ticked tick all_up ∷ selection_moments past))
+      rw is (move_notes-is (choice_after (moments_in rules past)) (choice_after (Ticked tick (shows_nothing rules past) ∷ moments_in rules past))
       (λ port was. chosen-stays _ _ port was))

@@ -1,6 +1,7 @@
 -- The definitions at work on small runs, each computed. Histories are newest first.
 use Rattle.std.specs.Prelude.{◌≡◌, ℕ, true, false, List, [], ◌∷◌, Option, Some, option_map, take, length, refl}
-use Rattle.psd_base.specs.Event.{Seen, TimePasses, PortActs, PanelMoves}
+use Rattle.psd_base.specs.Event.{Seen, TimePasses, PortActs, PanelMoves, AtFront}
+use Rattle.peripheral_filter.specs.declared.rule.RuleSet.{RuleSet}
 use Rattle.psd_base.specs.Setup.{setup_of}
 use Rattle.psd_base.specs.declared.act.Act.TheVariants as act
 use Rattle.psd_base.specs.declared.act.Answer.TheVariants as answer
@@ -13,9 +14,12 @@ use Rattle.control_pipe.specs.Control.{ControlAct}
 use Rattle.fail_secure.specs.Health.{health_after}
 use Rattle.selector.specs.Panel.{ports_down}
 use Rattle.selector.specs.Choice.{chosen}
+use Rattle.psd_base.specs.KeySet.{no_keys}
+use Rattle.console_plug.specs.Shown.{shown_keys, shown_buttons}
 use Rattle.switch_core.specs.KmDescriptors.{km_descriptor}
 use Rattle.switch_core.specs.Lines.{line_at}
 use Rattle.switch_core.specs.Notes.{notes_at}
+use Rattle.switch_core.specs.Peripherals.{peripheral_notes, shows_none}
 use Rattle.switch_core.specs.OnePort.{km_act, interrupt_answer, one_port_lines}
 use Rattle.switch_core.specs.View.{view}
 
@@ -50,9 +54,12 @@ mouse_report : first_four (0x81 ∷ 6 ∷ 0 ∷ 0x22 ∷ 1 ∷ 0 ∷ 0x34 ∷ 0 
 unfolding km_descriptor
 mouse_report = refl
 
+abbrev no_rules : RuleSet
+no_rules = record { allow = record { items = [] }; deny = record { items = [] } }
+
 -- a run: an act of port 1 in self-test, the four checks, and acts of ports 1 and 2
 abbrev moved : ℕ → Panel → Seen
-moved tick move = record { tick = tick; happening = PanelMoves move }
+moved tick move = record { tick = tick; happening = AtFront (PanelMoves move) }
 
 abbrev reset_of : ℕ → ℕ → Seen
 reset_of tick port = record { tick = tick; happening = PortActs port Km act.Reset }
@@ -65,36 +72,36 @@ tested =
     moved 0 (panel.Check 4 true) ∷ moved 0 (panel.Check 3 true) ∷ moved 0 (panel.Check 2 true)
     ∷ moved 0 (panel.Check 1 true) ∷ asked 0 1 ∷ []
 
-silent_in_self_test : option_map (λ line. line.1.answer) (line_at (asked 1 1) (asked 0 1 ∷ [])) ≡ Some answer.Silent
+silent_in_self_test : option_map (λ line. line.1.answer) (line_at no_rules (asked 1 1) (asked 0 1 ∷ [])) ≡ Some answer.Silent
 unfolding health_after
 silent_in_self_test = refl
 
-answers_when_alive : option_map (λ line. line.1.answer) (line_at (asked 1 1) tested) ≡ Some answer.Ack
-unfolding health_after ports_down
+answers_when_alive : option_map (λ line. line.1.answer) (line_at no_rules (asked 1 1) tested) ≡ Some answer.Ack
+unfolding health_after ports_down peripheral_notes shows_none
 answers_when_alive = refl
 
-alive_is_noted : notes_at (moved 0 (panel.Check 4 true)) (moved 0 (panel.Check 3 true) ∷ moved 0 (panel.Check 2 true) ∷ moved 0 (panel.Check 1 true) ∷ [])
+alive_is_noted : notes_at no_rules (moved 0 (panel.Check 4 true)) (moved 0 (panel.Check 3 true) ∷ moved 0 (panel.Check 2 true) ∷ moved 0 (panel.Check 1 true) ∷ [])
     ≡ note.Alive ∷ []
-unfolding health_after ports_down
+unfolding health_after ports_down peripheral_notes shows_none
 alive_is_noted = refl
 
-failure_is_noted : notes_at (moved 9 (panel.Check 2 false)) tested ≡ note.Dark (reason.Check 2) ∷ []
-unfolding health_after ports_down
+failure_is_noted : notes_at no_rules (moved 9 (panel.Check 2 false)) tested ≡ note.Dark (reason.Check 2) ∷ []
+unfolding health_after ports_down peripheral_notes shows_none
 failure_is_noted = refl
 
 -- the acts of port 2 are none of port 1's
-own_lines_alone : length (one_port_lines (view 1 (asked 2 2 ∷ asked 1 1 ∷ tested))) ≡ 2
-unfolding health_after ports_down
+own_lines_alone : length (one_port_lines (view no_rules 1 (asked 2 2 ∷ asked 1 1 ∷ tested))) ≡ 2
+unfolding health_after ports_down peripheral_notes shows_none
 own_lines_alone = refl
 
 -- port 1 is selected at the clock event at 100
 abbrev pressed : List Seen
 pressed = moved 0 (panel.Button 1 true) ∷ moved 0 (panel.Guard true) ∷ tested
 
-selection_is_noted : notes_at (record { tick = 100; happening = TimePasses }) pressed ≡ note.Select 1 ∷ []
-unfolding health_after ports_down chosen
+selection_is_noted : notes_at no_rules (record { tick = 100; happening = AtFront TimePasses }) pressed ≡ note.Select 1 ∷ []
+unfolding health_after ports_down peripheral_notes shows_none shown_keys shown_buttons no_keys chosen
 selection_is_noted = refl
 
-not_a_tick_earlier : notes_at (record { tick = 99; happening = TimePasses }) pressed ≡ []
-unfolding health_after ports_down chosen
+not_a_tick_earlier : notes_at no_rules (record { tick = 99; happening = AtFront TimePasses }) pressed ≡ []
+unfolding health_after ports_down peripheral_notes shows_none shown_keys shown_buttons no_keys chosen
 not_a_tick_earlier = refl

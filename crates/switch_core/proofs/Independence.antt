@@ -1,66 +1,75 @@
 -- What doesn't depend on what computers do.
-use Rattle.std.proofs.Common.{◌≡◌, ℕ, Bool, true, false, not, ◌==◌, List, [], ◌∷◌, if◌then◌else◌, refl, sym, ap, ◌∙◌}
+use Rattle.std.proofs.Common.{◌≡◌, ℕ, Bool, true, false, not, ◌==◌, List, [], ◌∷◌, if◌then◌else◌, refl, ap, ◌∙◌}
 use Rattle.psd_base.specs.declared.act.Act.{Act}
 use Rattle.psd_base.specs.declared.act.Side.{Side}
-use Rattle.psd_base.specs.Event.{Happening, TimePasses, PortActs, PanelMoves, Seen}
-use Rattle.selector.specs.Moments.{Moment, Moved, Ticked}
-use Rattle.switch_core.specs.Independence.{is_act, is_act_elsewhere, without, LogIgnoresActs, SameViewSameLines, ViewIgnoresOthers}
-use Rattle.switch_core.specs.FrontMoments.{moments_in}
-use Rattle.switch_core.specs.Notes.{notes_at, notes_of}
+use Rattle.psd_base.specs.Event.{Happening, PortActs, AtFront, Seen}
+use Rattle.peripheral_filter.specs.declared.rule.RuleSet.{RuleSet}
+use Rattle.switch_core.specs.Independence.{is_act, is_act_elsewhere, without, ConsoleIgnoresActs, SameViewSameLines, ViewIgnoresOthers}
+use Rattle.switch_core.specs.FrontEvents.{FrontEvent, front_event, front_of}
+use Rattle.switch_core.specs.Notes.{notes_at}
 use Rattle.switch_core.specs.OnePort.{one_port_lines}
+use Rattle.switch_core.specs.Orders.{orders_at}
 use Rattle.switch_core.specs.View.{Item, Own, view}
 
--- health and selection are found from the same moments
-moments_without_acts : (past : List Seen) → moments_in (without is_act past) ≡ moments_in past
-moments_without_acts [] = refl
-moments_without_acts (event ∷ past) = by_happening event.tick event.happening (moments_without_acts past) where
-  by_happening : (tick : ℕ) (happening : Happening) → moments_in (without is_act past) ≡ moments_in past
-      → moments_in (without is_act (record { tick = tick; happening = happening } ∷ past)) ≡ moments_in (record { tick = tick; happening = happening } ∷ past)
-  by_happening tick TimePasses before = ap (λ (moments : List Moment). Ticked tick true ∷ moments) before
+-- the same happened at the front
+front_without_acts : (past : List Seen) → front_of (without is_act past) ≡ front_of past
+front_without_acts [] = refl
+front_without_acts (event ∷ past) = by_happening event.tick event.happening (front_without_acts past) where
+  by_happening : (tick : ℕ) (happening : Happening) → front_of (without is_act past) ≡ front_of past
+      → front_of (without is_act (record { tick = tick; happening = happening } ∷ past)) ≡ front_of (record { tick = tick; happening = happening } ∷ past)
   by_happening tick (PortActs port side act) before = before
-  by_happening tick (PanelMoves move) before = ap (λ (moments : List Moment). Moved tick move ∷ moments) before
+  by_happening tick (AtFront doing) before = ap (λ (front : List FrontEvent). front_event tick doing ∷ front) before
 
-moments_without_others : (port : ℕ) (past : List Seen) → moments_in (without (is_act_elsewhere port) past) ≡ moments_in past
-moments_without_others port [] = refl
-moments_without_others port (event ∷ past) = by_happening event.tick event.happening (moments_without_others port past) where
-  by_owner : (own : Bool) (kept left : List Seen) → moments_in kept ≡ moments_in left → (all : List Moment) → moments_in left ≡ all
-      → moments_in (if not own then left else kept) ≡ all
+front_without_others : (port : ℕ) (past : List Seen) → front_of (without (is_act_elsewhere port) past) ≡ front_of past
+front_without_others port [] = refl
+front_without_others port (event ∷ past) = by_happening event.tick event.happening (front_without_others port past) where
+  by_owner : (own : Bool) (kept left : List Seen) → front_of kept ≡ front_of left → (all : List FrontEvent) → front_of left ≡ all
+      → front_of (if not own then left else kept) ≡ all
   by_owner true kept left same all is = same ∙ is
   by_owner false kept left same all is = is
 
-  by_happening : (tick : ℕ) (happening : Happening) → moments_in (without (is_act_elsewhere port) past) ≡ moments_in past
-      → moments_in (without (is_act_elsewhere port) (record { tick = tick; happening = happening } ∷ past)) ≡ moments_in (record { tick = tick; happening = happening } ∷ past)
-  by_happening tick TimePasses before = ap (λ (moments : List Moment). Ticked tick true ∷ moments) before
+  by_happening : (tick : ℕ) (happening : Happening) → front_of (without (is_act_elsewhere port) past) ≡ front_of past
+      → front_of (without (is_act_elsewhere port) (record { tick = tick; happening = happening } ∷ past)) ≡ front_of (record { tick = tick; happening = happening } ∷ past)
   by_happening tick (PortActs other side act) before = by_owner (other == port) (record { tick = tick; happening = PortActs other side act } ∷ without (is_act_elsewhere port) past)
-      (without (is_act_elsewhere port) past) refl (moments_in past) before
-  by_happening tick (PanelMoves move) before = ap (λ (moments : List Moment). Moved tick move ∷ moments) before
+      (without (is_act_elsewhere port) past) refl (front_of past) before
+  by_happening tick (AtFront doing) before = ap (λ (front : List FrontEvent). front_event tick doing ∷ front) before
 
-pub log_ignores_acts : LogIgnoresActs
-log_ignores_acts event past = (ap (notes_of event.tick event.happening) (moments_without_acts past), by_happening event.happening) where
-  by_happening : (happening : Happening) → is_act happening ≡ true → notes_of event.tick happening (moments_in past) ≡ []
-  by_happening TimePasses is = absurd (cc)
-  by_happening (PortActs port side act) is = refl
-  by_happening (PanelMoves move) is = absurd (cc)
+pub console_ignores_acts : ConsoleIgnoresActs
+console_ignores_acts rules event past = (same_notes event.tick event.happening, same_orders event.tick event.happening, of_act event.tick event.happening) where
+  same : front_of (without is_act past) ≡ front_of past
+  same = front_without_acts past
 
-view_without_others : (port : ℕ) (past : List Seen) → view port (without (is_act_elsewhere port) past) ≡ view port past
-view_without_others port [] = refl
-view_without_others port (event ∷ past) = by_happening event.tick event.happening (view_without_others port past) where
-  same : moments_in (without (is_act_elsewhere port) past) ≡ moments_in past
-  same = moments_without_others port past
+  same_notes : (tick : ℕ) (happening : Happening) → notes_at rules (record { tick = tick; happening = happening }) (without is_act past) ≡ notes_at rules (record { tick = tick; happening = happening }) past
+  same_notes tick (PortActs port side act) = refl
+  same_notes tick (AtFront doing) = rw same refl
 
-  by_owner : (tick other : ℕ) (side : Side) (act : Act) (own : Bool) → (other == port) ≡ own → view port (without (is_act_elsewhere port) past) ≡ view port past
-      → view port (without (is_act_elsewhere port) (record { tick = tick; happening = PortActs other side act } ∷ past)) ≡ view port (record { tick = tick; happening = PortActs other side act } ∷ past)
+  same_orders : (tick : ℕ) (happening : Happening) → orders_at rules (record { tick = tick; happening = happening }) (without is_act past) ≡ orders_at rules (record { tick = tick; happening = happening }) past
+  same_orders tick (PortActs port side act) = refl
+  same_orders tick (AtFront doing) = rw same refl
+
+  of_act : (tick : ℕ) (happening : Happening) → is_act happening ≡ true
+      → (notes_at rules (record { tick = tick; happening = happening }) past ≡ []) × (orders_at rules (record { tick = tick; happening = happening }) past ≡ [])
+  of_act tick (PortActs port side act) is = (refl, refl)
+  of_act tick (AtFront doing) is = absurd (cc)
+
+view_without_others : (rules : RuleSet) (port : ℕ) (past : List Seen) → view rules port (without (is_act_elsewhere port) past) ≡ view rules port past
+view_without_others rules port [] = refl
+view_without_others rules port (event ∷ past) = by_happening event.tick event.happening (view_without_others rules port past) where
+  same : front_of (without (is_act_elsewhere port) past) ≡ front_of past
+  same = front_without_others port past
+
+  by_owner : (tick other : ℕ) (side : Side) (act : Act) (own : Bool) → (other == port) ≡ own → view rules port (without (is_act_elsewhere port) past) ≡ view rules port past
+      → view rules port (without (is_act_elsewhere port) (record { tick = tick; happening = PortActs other side act } ∷ past)) ≡ view rules port (record { tick = tick; happening = PortActs other side act } ∷ past)
   by_owner tick other side act true is before = rw is (rw is (ap (λ (items : List Item). record { tick = tick; concern = Own side act } ∷ items) before))
   by_owner tick other side act false is before = rw is before
 
-  by_happening : (tick : ℕ) (happening : Happening) → view port (without (is_act_elsewhere port) past) ≡ view port past
-      → view port (without (is_act_elsewhere port) (record { tick = tick; happening = happening } ∷ past)) ≡ view port (record { tick = tick; happening = happening } ∷ past)
-  by_happening tick TimePasses before = rw (same, before) refl
+  by_happening : (tick : ℕ) (happening : Happening) → view rules port (without (is_act_elsewhere port) past) ≡ view rules port past
+      → view rules port (without (is_act_elsewhere port) (record { tick = tick; happening = happening } ∷ past)) ≡ view rules port (record { tick = tick; happening = happening } ∷ past)
   by_happening tick (PortActs other side act) before = by_owner tick other side act (other == port) refl before
-  by_happening tick (PanelMoves move) before = rw (same, before) refl
+  by_happening tick (AtFront doing) before = rw (same, before) refl
 
 pub view_ignores_others : ViewIgnoresOthers
-view_ignores_others port past = view_without_others port past
+view_ignores_others rules port past = view_without_others rules port past
 
 pub same_view_same_lines : SameViewSameLines
-same_view_same_lines port past other same = ap one_port_lines same
+same_view_same_lines rules others port past other same = ap one_port_lines same

@@ -4,3 +4,4 @@ pub mod Fronts
 pub mod Independence
 pub mod PortLists
 pub mod Views
+pub mod Plugs

@@ -4,6 +4,7 @@ use Rattle.std.proofs.lemmas.Option.{slice_get-get_or}
 use Rattle.psd_base.specs.declared.act.Act.{Act}
 use Rattle.psd_base.specs.declared.act.Side.{Side}
 use Rattle.psd_base.specs.Event.{Seen, PortActs}
+use Rattle.peripheral_filter.specs.declared.rule.RuleSet.{RuleSet}
 use Rattle.switch_core.specs.declared.slot.Slot.{Slot}
 use Rattle.switch_core.specs.View.{Item, Own, view}
 use Rattle.switch_core.specs.SlotStands.{SlotStands, AllStand, views_of}
@@ -46,20 +47,20 @@ pub AllStand-at : (ports : List Slot) (place : ℕ) (d : Slot) (views : ℕ → 
 AllStand-at ports place d views within each = each place (slice_index_or ports place d) (slice_get-get_or ports place d within)
 
 -- an act of one port leaves the others as they were
-pub AllStand-act : (ports : List Slot) (place : ℕ) (new : Slot) (port tick : ℕ) (side : Side) (act : Act) (past : List Seen)
-    → place + 1 ≡ port → AllStand ports (views_of past)
-    → SlotStands new (record { tick = tick; concern = Own side act } ∷ view (place + 1) past)
-    → AllStand (slice_set ports place new) (views_of (record { tick = tick; happening = PortActs port side act } ∷ past))
-AllStand-act ports place new port tick side act past numbered each stands at other is =
+pub AllStand-act : (ports : List Slot) (place : ℕ) (new : Slot) (port tick : ℕ) (side : Side) (act : Act) (rules : RuleSet) (past : List Seen)
+    → place + 1 ≡ port → AllStand ports (views_of rules past)
+    → SlotStands new (record { tick = tick; concern = Own side act } ∷ view rules (place + 1) past)
+    → AllStand (slice_set ports place new) (views_of rules (record { tick = tick; happening = PortActs port side act } ∷ past))
+AllStand-act ports place new port tick side act rules past numbered each stands at other is =
     elim (slice_get-set ports place new at other is) [
       | inl same ↦
           let here : port ≡ at + 1 = omega (arith, same.0) in
-          subst (λ (v : List Item). SlotStands other v) (sym (own_view port (at + 1) tick side act past here))
-          (subst (λ (p : Slot). SlotStands p (record { tick = tick; concern = Own side act } ∷ view (at + 1) past)) same.1
-          (subst (λ (k : ℕ). SlotStands new (record { tick = tick; concern = Own side act } ∷ view (k + 1) past)) same.0 stands))
+          subst (λ (v : List Item). SlotStands other v) (sym (own_view rules port (at + 1) tick side act past here))
+          (subst (λ (p : Slot). SlotStands p (record { tick = tick; concern = Own side act } ∷ view rules (at + 1) past)) same.1
+          (subst (λ (k : ℕ). SlotStands new (record { tick = tick; concern = Own side act } ∷ view rules (k + 1) past)) same.0 stands))
       | inr apart ↦
           let elsewhere : port ≢ at + 1 = λ e. apart.0 (omega arith) in
-          subst (λ (v : List Item). SlotStands other v) (sym (other_view port (at + 1) tick side act past elsewhere)) (each at other apart.1)
+          subst (λ (v : List Item). SlotStands other v) (sym (other_view rules port (at + 1) tick side act past elsewhere)) (each at other apart.1)
     ]
 
 -- an element stands within its list

@@ -3,21 +3,21 @@ use Rattle.std.proofs.Common.{◌≡◌, ◌≢◌, ℕ, Bool, true, false, not,
 use Rattle.std.proofs.lemmas.Bool.Decides.{eqb_tells}
 use Rattle.psd_base.specs.declared.act.Act.{Act}
 use Rattle.psd_base.specs.declared.act.Side.{Side}
-use Rattle.psd_base.specs.declared.console.Panel.{Panel}
-use Rattle.psd_base.specs.Event.{Seen, Happening, TimePasses, PortActs, PanelMoves}
+use Rattle.psd_base.specs.Event.{Seen, Doing, TimePasses, PanelMoves, Attaches, Detaches, Replies, Reports, Happening, PortActs, AtFront}
+use Rattle.peripheral_filter.specs.declared.rule.RuleSet.{RuleSet}
 use Rattle.fail_secure.specs.declared.health.Health.{Health}
 use Rattle.fail_secure.specs.declared.health.Health.TheVariants.{Testing, Alive, Dark}
 use Rattle.fail_secure.specs.Health.{health_after}
-use Rattle.selector.specs.Moments.{Moved, Ticked}
 use Rattle.fail_secure.specs.declared.health_change.HealthChange.{HealthChange}
 use Rattle.fail_secure.specs.declared.health_change.HealthChange.TheVariants as change
 use Rattle.control_pipe.specs.PipeStands.{PipeStands}
 use Rattle.switch_core.specs.declared.slot.Slot.{Slot}
 use Rattle.switch_core.specs.declared.slot.Slot.TheVariants as slot
 use Rattle.fail_secure.specs.HealthChange.{is_alive, change_of}
-use Rattle.switch_core.specs.FrontMoments.{moments_in}
-use Rattle.switch_core.specs.Chosen.{health_at, selected_at, is_at}
-use Rattle.switch_core.specs.View.{Concern, Own, Selects, Leaves, Item, stamped, only_if, handed, change_concerns, view}
+use Rattle.switch_core.specs.FrontEvents.{FrontEvent, front_event, front_of}
+use Rattle.switch_core.specs.FrontHealth.{health_at}
+use Rattle.switch_core.specs.Chosen.{selected_at, is_at}
+use Rattle.switch_core.specs.View.{Concern, Own, Selects, Leaves, Item, stamped, only_if, handed, change_concerns, front_concerns, view}
 use Rattle.switch_core.specs.OnePort.{Parts, is_live, parts_of, one_port_lines}
 use Rattle.switch_core.specs.SlotStands.{SlotStands}
 
@@ -74,26 +74,34 @@ is_live-change tick Dark (Testing more) past is = is
 is_live-change tick Dark Alive past is = refl
 is_live-change tick Dark Dark past is = is
 
-pub is_live-view : (port : ℕ) (past : List Seen) → is_live (view port past) ≡ is_alive (health_at (moments_in past))
+is_live-front : (rules : RuleSet) (port tick : ℕ) (doing : Doing) (front : List FrontEvent) (past : List Item) → is_live past ≡ is_alive (health_at front)
+    → is_live (stamped tick (front_concerns rules port tick doing front) past) ≡ is_alive (health_at (front_event tick doing ∷ front))
+is_live-front rules port tick TimePasses front past is =
+    is_live-selection port tick (selected_at rules front) (selected_at rules (front_event tick TimePasses ∷ front)) past ∙ is
+is_live-front rules port tick (PanelMoves move) front past is =
+    is_live-change tick (health_at front) (health_at (front_event tick (PanelMoves move) ∷ front)) past is
+is_live-front rules port tick (Attaches plug) front past is = is
+is_live-front rules port tick (Detaches plug) front past is = is
+is_live-front rules port tick (Replies plug life number status bytes) front past is = is
+is_live-front rules port tick (Reports plug interface bytes) front past is = is
+
+pub is_live-view : (rules : RuleSet) (port : ℕ) (past : List Seen) → is_live (view rules port past) ≡ is_alive (health_at (front_of past))
 unfolding health_after
-is_live-view port [] = refl
-is_live-view port (event ∷ past) = by_happening (is_live-view port past) event.tick event.happening where
-  by_happening : is_live (view port past) ≡ is_alive (health_at (moments_in past)) → (tick : ℕ) (happening : Happening)
-      → is_live (view port (record { tick = tick; happening = happening } ∷ past)) ≡ is_alive (health_at (moments_in (record { tick = tick; happening = happening } ∷ past)))
-  by_happening before tick TimePasses =
-      is_live-selection port tick (selected_at (moments_in past)) (selected_at (Ticked tick true ∷ moments_in past)) (view port past) ∙ before
-  by_happening before tick (PortActs other side act) = is_live-act port tick other side act (view port past) ∙ before
-  by_happening before tick (PanelMoves move) =
-      is_live-change tick (health_at (moments_in past)) (health_at (Moved tick move ∷ moments_in past)) (view port past) before
+is_live-view rules port [] = refl
+is_live-view rules port (event ∷ past) = by_happening (is_live-view rules port past) event.tick event.happening where
+  by_happening : is_live (view rules port past) ≡ is_alive (health_at (front_of past)) → (tick : ℕ) (happening : Happening)
+      → is_live (view rules port (record { tick = tick; happening = happening } ∷ past)) ≡ is_alive (health_at (front_of (record { tick = tick; happening = happening } ∷ past)))
+  by_happening before tick (PortActs other side act) = is_live-act port tick other side act (view rules port past) ∙ before
+  by_happening before tick (AtFront doing) = is_live-front rules port tick doing (front_of past) (view rules port past) before
 
 -- the view of the port that acted, and of another one
-pub own_view : (port other tick : ℕ) (side : Side) (act : Act) (past : List Seen) → port ≡ other
-    → view other (record { tick = tick; happening = PortActs port side act } ∷ past) ≡ record { tick = tick; concern = Own side act } ∷ view other past
-own_view port other tick side act past same = elim (eqb_tells port other) [ inl is ↦ rw is.0 | inr is ↦ absurd (is.1 same) ]
+pub own_view : (rules : RuleSet) (port other tick : ℕ) (side : Side) (act : Act) (past : List Seen) → port ≡ other
+    → view rules other (record { tick = tick; happening = PortActs port side act } ∷ past) ≡ record { tick = tick; concern = Own side act } ∷ view rules other past
+own_view rules port other tick side act past same = elim (eqb_tells port other) [ inl is ↦ rw is.0 | inr is ↦ absurd (is.1 same) ]
 
-pub other_view : (port other tick : ℕ) (side : Side) (act : Act) (past : List Seen) → port ≢ other
-    → view other (record { tick = tick; happening = PortActs port side act } ∷ past) ≡ view other past
-other_view port other tick side act past apart = elim (eqb_tells port other) [ inl is ↦ absurd (apart is.1) | inr is ↦ rw is.0 ]
+pub other_view : (rules : RuleSet) (port other tick : ℕ) (side : Side) (act : Act) (past : List Seen) → port ≢ other
+    → view rules other (record { tick = tick; happening = PortActs port side act } ∷ past) ≡ view rules other past
+other_view rules port other tick side act past apart = elim (eqb_tells port other) [ inl is ↦ absurd (apart is.1) | inr is ↦ rw is.0 ]
 
 -- ports wake where the switch was not alive
 pub wakes_from : (before after : Health) → change.Wakes ≡ change_of before after → is_alive before ≡ false
@@ -109,14 +117,19 @@ one_port_lines-change tick change.Stays past = refl
 one_port_lines-change tick change.Wakes past = refl
 one_port_lines-change tick change.Darkens past = refl
 
--- a clock event adds no line to any port, nor does a move at the panel
-pub one_port_lines-clock : (port tick : ℕ) (past : List Seen)
-    → one_port_lines (view port (record { tick = tick; happening = TimePasses } ∷ past)) ≡ one_port_lines (view port past)
-one_port_lines-clock port tick past =
-    by_handing (λ v. one_port_lines v ≡ one_port_lines (view port past)) port tick
-    (selected_at (moments_in past)) (selected_at (Ticked tick true ∷ moments_in past)) Leaves Selects (λ v e. e) (λ v e. e) (view port past) refl
+-- what happens at the front adds no line to any port
+one_port_lines-doing : (rules : RuleSet) (port tick : ℕ) (doing : Doing) (front : List FrontEvent) (past : List Item)
+    → one_port_lines (stamped tick (front_concerns rules port tick doing front) past) ≡ one_port_lines past
+one_port_lines-doing rules port tick TimePasses front past =
+    by_handing (λ v. one_port_lines v ≡ one_port_lines past) port tick
+    (selected_at rules front) (selected_at rules (front_event tick TimePasses ∷ front)) Leaves Selects (λ v e. e) (λ v e. e) past refl
+one_port_lines-doing rules port tick (PanelMoves move) front past =
+    one_port_lines-change tick (change_of (health_at front) (health_at (front_event tick (PanelMoves move) ∷ front))) past
+one_port_lines-doing rules port tick (Attaches plug) front past = refl
+one_port_lines-doing rules port tick (Detaches plug) front past = refl
+one_port_lines-doing rules port tick (Replies plug life number status bytes) front past = refl
+one_port_lines-doing rules port tick (Reports plug interface bytes) front past = refl
 
-pub one_port_lines-move : (port tick : ℕ) (move : Panel) (past : List Seen)
-    → one_port_lines (view port (record { tick = tick; happening = PanelMoves move } ∷ past)) ≡ one_port_lines (view port past)
-one_port_lines-move port tick move past =
-    one_port_lines-change tick (change_of (health_at (moments_in past)) (health_at (Moved tick move ∷ moments_in past))) (view port past)
+pub one_port_lines-front : (rules : RuleSet) (port tick : ℕ) (doing : Doing) (past : List Seen)
+    → one_port_lines (view rules port (record { tick = tick; happening = AtFront doing } ∷ past)) ≡ one_port_lines (view rules port past)
+one_port_lines-front rules port tick doing past = one_port_lines-doing rules port tick doing (front_of past) (view rules port past)

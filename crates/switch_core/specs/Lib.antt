@@ -1,11 +1,16 @@
 pub mod Chosen
-pub mod FrontMoments
+pub mod FrontEvents
+pub mod FrontHealth
 pub mod FrontStands
+pub mod Gives
 pub mod Independence
 pub mod KmDescriptors
 pub mod Lines
 pub mod Notes
 pub mod OnePort
+pub mod Orders
+pub mod Peripherals
+pub mod PeripheralsStand
 pub mod PortsStand
 pub mod SlotStands
 pub mod StandsFor

@@ -1,14 +1,14 @@
 -- The line that each event gives.
 use Rattle.std.specs.Prelude.{ℕ, List, Option, Some, None}
-use Rattle.psd_base.specs.Event.{Happening, TimePasses, PortActs, PanelMoves, Seen}
+use Rattle.psd_base.specs.Event.{Happening, PortActs, AtFront, Seen}
 use Rattle.psd_base.specs.declared.line.Line.{Line}
+use Rattle.peripheral_filter.specs.declared.rule.RuleSet.{RuleSet}
 use Rattle.switch_core.specs.View.{view}
 use Rattle.switch_core.specs.OnePort.{line_of}
 
 -- the line that an event gives after a history, with its port: that of an act, the last of its port's transcript
-abbrev pub line_at : Seen → List Seen → Option (ℕ × Line)
-line_at event past = line_of_happening event.tick event.happening past where
+abbrev pub line_at : RuleSet → Seen → List Seen → Option (ℕ × Line)
+line_at rules event past = line_of_happening event.tick event.happening past where
   line_of_happening : ℕ → Happening → List Seen → Option (ℕ × Line)
-  line_of_happening tick TimePasses past = None
-  line_of_happening tick (PortActs port side act) past = Some (port, line_of (view port past) tick side act)
-  line_of_happening tick (PanelMoves move) past = None
+  line_of_happening tick (PortActs port side act) past = Some (port, line_of (view rules port past) tick side act)
+  line_of_happening tick (AtFront doing) past = None

@@ -2,6 +2,7 @@
 use Rattle.std.specs.Prelude.{◌≡◌, ℕ, ◌+◌, true, false, List, Some, slice_get}
 use Rattle.control_pipe.specs.PipeStands.{PipeStands}
 use Rattle.psd_base.specs.Event.{Seen}
+use Rattle.peripheral_filter.specs.declared.rule.RuleSet.{RuleSet}
 use Rattle.switch_core.specs.declared.slot.Slot.{Slot}
 use Rattle.switch_core.specs.declared.slot.Slot.TheVariants as slot
 use Rattle.switch_core.specs.declared.port.Port.{Port}
@@ -25,5 +26,5 @@ AllStand ports views =
     (place : ℕ) (port : Slot) → slice_get ports place ≡ Some port → SlotStands port (views place)
 
 -- the views of all ports, which are numbered from 1
-abbrev pub views_of : List Seen → ℕ → List Item
-views_of past place = view (place + 1) past
+abbrev pub views_of : RuleSet → List Seen → ℕ → List Item
+views_of rules past place = view rules (place + 1) past

@@ -3,13 +3,14 @@
 use Rattle.std.specs.Prelude.{ℕ, Bool, true, false, ◌==◌, ◌&&◌, not, List, [], ◌∷◌, ◌++◌, Option}
 use Rattle.psd_base.specs.declared.act.Act.{Act}
 use Rattle.psd_base.specs.declared.act.Side.{Side}
-use Rattle.psd_base.specs.Event.{Happening, TimePasses, PortActs, PanelMoves, Seen}
-use Rattle.selector.specs.Moments.{Moment, Moved, Ticked}
+use Rattle.psd_base.specs.Event.{Doing, TimePasses, PanelMoves, Happening, PortActs, AtFront, Seen}
 use Rattle.fail_secure.specs.declared.health_change.HealthChange.{HealthChange}
 use Rattle.fail_secure.specs.declared.health_change.HealthChange.TheVariants as change
 use Rattle.fail_secure.specs.HealthChange.{change_of}
-use Rattle.switch_core.specs.FrontMoments.{moments_in}
-use Rattle.switch_core.specs.Chosen.{health_at, selected_at, is_at}
+use Rattle.peripheral_filter.specs.declared.rule.RuleSet.{RuleSet}
+use Rattle.switch_core.specs.FrontEvents.{FrontEvent, front_event, front_of}
+use Rattle.switch_core.specs.FrontHealth.{health_at}
+use Rattle.switch_core.specs.Chosen.{selected_at, is_at}
 
 -- What concerns a port: an act of its computer; that the switch is alive, or dark; that the port is selected, or left.
 pub data Concern : Type 0 where
@@ -46,16 +47,20 @@ change_concerns change.Stays = []
 change_concerns change.Wakes = Wakes ∷ []
 change_concerns change.Darkens = Darkens ∷ []
 
--- what of an event concerns a port, by the moments before it
-abbrev pub concerns : ℕ → ℕ → Happening → List Moment → List Concern
-concerns port tick TimePasses moments =
-    handed port (selected_at moments) (selected_at (Ticked tick true ∷ moments)) Leaves Selects
-concerns port tick (PortActs other side act) moments = only_if (other == port) (Own side act)
-concerns port tick (PanelMoves move) moments =
-    change_concerns (change_of (health_at moments) (health_at (Moved tick move ∷ moments)))
+-- what of an event at the front concerns a port, by what happened there before it
+abbrev pub front_concerns : RuleSet → ℕ → ℕ → Doing → List FrontEvent → List Concern
+front_concerns rules port tick TimePasses front =
+    handed port (selected_at rules front) (selected_at rules (front_event tick TimePasses ∷ front)) Leaves Selects
+front_concerns rules port tick (PanelMoves move) front =
+    change_concerns (change_of (health_at front) (health_at (front_event tick (PanelMoves move) ∷ front)))
+front_concerns rules port tick _ front = []
+
+abbrev pub concerns : RuleSet → ℕ → ℕ → Happening → List FrontEvent → List Concern
+concerns rules port tick (PortActs other side act) front = only_if (other == port) (Own side act)
+concerns rules port tick (AtFront doing) front = front_concerns rules port tick doing front
 
 -- what concerns this port after a history of events
-abbrev pub view : ℕ → List Seen → List Item
-view port [] = []
-view port (event ∷ past) =
-    stamped event.tick (concerns port event.tick event.happening (moments_in past)) (view port past)
+abbrev pub view : RuleSet → ℕ → List Seen → List Item
+view rules port [] = []
+view rules port (event ∷ past) =
+    stamped event.tick (concerns rules port event.tick event.happening (front_of past)) (view rules port past)

@@ -1,87 +1,199 @@
-//! The front of the switch: its self-test and its selection, which the panel and the clock alone move.
-ghost use Rattle.std.specs.Prelude.{◌≡◌, ◌<◌, ◌≤◌, ◌+◌, List, [], ◌∷◌, ◌++◌, length};
+//! The front of the switch: its self-test, its selection and the plugs of its console, which no computer moves.
+ghost use Rattle.std.specs.Prelude.{◌≡◌, ℕ, ◌<◌, ◌≤◌, ◌+◌, ◌-◌, List, [], ◌∷◌, ◌++◌, length, IfOk, if◌then◌else◌};
 ghost use Rattle.psd_base.specs.declared.console.TheConstants.{NOTES_MAX};
-ghost use Rattle.fail_secure.specs.HealthChange.{change_of};
+ghost use Rattle.psd_base.specs.declared.console.Plug.TheVariants.{Keyboard, Mouse};
+ghost use Rattle.psd_base.specs.Event.{TimePasses, PanelMoves, Attaches, Detaches, Replies, Reports};
+ghost use Rattle.peripheral_filter.specs.declared.rule.RuleSet.{RuleSet};
+ghost use Rattle.fail_secure.specs.HealthChange.{change_of, is_alive};
 ghost use Rattle.fail_secure.specs.declared.health.TheConstants.{ALL_CHECKS};
-ghost use Rattle.selector.specs.Moments.{Moment, Moved, Ticked};
-ghost use Rattle.switch_core.specs.Chosen.{IsKnownCheck, checks_in, health_at, move_at, selected_at};
-ghost use Rattle.switch_core.specs.Notes.{change_notes, move_notes, selection_notes};
+ghost use Rattle.selector.specs.Choice.{choice_after, move_of};
+ghost use Rattle.selector.specs.Moments.{Moment, Ticked};
+ghost use Rattle.selector.specs.SelectorStands.{SelectorStands};
+ghost use Rattle.switch_core.specs.Chosen.{move_at, selected_at};
+ghost use Rattle.switch_core.specs.FrontEvents.{FrontEvent, front_event};
+ghost use Rattle.switch_core.specs.FrontHealth.{IsKnownCheck, checks_in, health_at};
+ghost use Rattle.switch_core.specs.Notes.{change_notes, front_notes, move_notes, selector_notes};
+ghost use Rattle.switch_core.specs.Peripherals.{peripheral_notes, peripheral_orders, plug_history};
 
+use crate::peripherals::Peripherals;
 use crate::self_test::{health_moved, reason_for};
 use fail_secure::{Health, HealthChange, change_between};
-use psd_base::console::{Note, Notes, Panel};
+use peripheral_filter::RuleSet;
+use psd_base::console::{Note, Notes, Orders, Panel, Plug};
 use psd_base::event::Tick;
 use selector::{Move, Selector};
+use std::alloc::{AllocError, Global};
 
-/// The self-test and the selection.
+/// The self-test, the selection and the console's plugs, under the rules of the administrator. The plugs lie in memory of
+/// their own. The promises of a call hold for whatever happened at the front before.
 #[derive(Drop)]
 pub struct Front {
+    rules: RuleSet,
     health: Health,
     selector: Selector,
+    peripherals: Box<Peripherals>,
     ghost unfinished: { checks_in health < ALL_CHECKS },
 }
 
 impl Front {
-    ghost use Rattle.switch_core.specs.FrontStands.{FrontStands};
+    ghost use Rattle.switch_core.specs.FrontStands.{FrontLivesWithin, FrontStands};
 
-    /// The front before any move.
-    pub fn new() -> Front
-        ensures { FrontStands result [] }
+    /// The front before anything happened.
+    pub fn new(alloc: Global, rules: RuleSet) -> Result<Front, AllocError>
+        ensures stands { IfOk result (λ front. FrontStands rules front []) }
+        ensures lives { IfOk result (FrontLivesWithin 0) }
     {
-        Front {
+        let peripherals = Box::new(alloc, Peripherals::new())?;
+        Ok(Front {
+            rules,
             health: Health::new(),
             selector: Selector::new(),
-        }
+            peripherals,
+        })
     }
 
-    /// Time passes; `all_up` says whether the console shows nothing pressed. Appends the notes of the selection, which
-    /// moves while the switch is alive alone, and gives its move.
-    pub fn clock(&mut self, tick: Tick, all_up: bool, notes: &mut Notes) -> Move
-        requires room { length notes.old.items + 2 ≤ NOTES_MAX }
-        ensures stands { (past : List Moment) → FrontStands self.old past
-            → FrontStands self.new (Ticked tick all_up ∷ past) }
-        ensures answer { (past : List Moment) → FrontStands self.old past
-            → result ≡ move_at past tick all_up }
-        ensures notes { (past : List Moment) → FrontStands self.old past → notes.new.items
-            ≡ notes.old.items ++ selection_notes (selected_at past)
-            (selected_at (Ticked tick all_up ∷ past)) }
+    /// Time passes: what stayed silent is refused, and then the selection moves, while the switch is alive alone. Gives the
+    /// selection's move.
+    pub fn clock(&mut self, tick: Tick, orders: &mut Orders, notes: &mut Notes) -> Move
+        requires no_orders { orders.old.items ≡ [] }
+        requires no_notes { notes.old.items ≡ [] }
+        ensures stands { (rules : RuleSet) (past : List FrontEvent) → FrontStands rules self.old past
+            → FrontStands rules self.new (front_event tick TimePasses ∷ past) }
+        ensures answer { (rules : RuleSet) (past : List FrontEvent) → FrontStands rules self.old past
+            → result ≡ move_at rules tick past }
+        ensures orders { (rules : RuleSet) (past : List FrontEvent) → FrontStands rules self.old past
+            → orders.new.items ≡ peripheral_orders rules (front_event tick TimePasses) past }
+        ensures notes { (rules : RuleSet) (past : List FrontEvent) → FrontStands rules self.old past
+            → notes.new.items ≡ front_notes rules tick TimePasses past }
+        ensures lives { (count : ℕ) → FrontLivesWithin count self.old → FrontLivesWithin count self.new }
     {
-        let change = self.look(tick, all_up);
+        let all_up = self.peripherals.shows_nothing();
+        self.peripherals.clock(tick, orders, notes);
+        let change = look(self.health, &mut self.selector, tick, all_up);
         note_move(&change, notes);
         change
     }
 
-    /// Takes a clock event to the selection, while the switch is alive.
-    fn look(&mut self, tick: Tick, all_up: bool) -> Move
-        ensures stands { (past : List Moment) → FrontStands self.old past
-            → FrontStands self.new (Ticked tick all_up ∷ past) }
-        ensures answer { (past : List Moment) → FrontStands self.old past
-            → result ≡ move_at past tick all_up }
-    {
-        match self.health {
-            Health::Testing { .. } => Move::Stay,
-            Health::Alive => self.selector.clock(tick, all_up),
-            Health::Dark => Move::Stay,
-        }
-    }
-
     /// A move at the panel. Gives what it means for the ports.
-    pub fn moved(&mut self, tick: Tick, panel: &Panel, notes: &mut Notes) -> HealthChange
+    pub fn moved(
+        &mut self,
+        tick: Tick,
+        panel: &Panel,
+        orders: &mut Orders,
+        notes: &mut Notes,
+    ) -> HealthChange
         requires known { IsKnownCheck panel.now }
-        requires empty { notes.old.items ≡ [] }
-        ensures stands { (past : List Moment) → FrontStands self.old past
-            → FrontStands self.new (Moved tick panel.now ∷ past) }
-        ensures change { (past : List Moment) → FrontStands self.old past
-            → result ≡ change_of (health_at past) (health_at (Moved tick panel.now ∷ past)) }
-        ensures notes { notes.new.items ≡ change_notes panel.now result }
+        requires lives { FrontLivesWithin (u32.MAX - 1) self.old }
+        requires no_orders { orders.old.items ≡ [] }
+        requires no_notes { notes.old.items ≡ [] }
+        ensures stands { (rules : RuleSet) (past : List FrontEvent) → FrontStands rules self.old past
+            → FrontStands rules self.new (front_event tick (PanelMoves panel.now) ∷ past) }
+        ensures change { (rules : RuleSet) (past : List FrontEvent) → FrontStands rules self.old past
+            → result ≡ change_of (health_at past)
+            (health_at (front_event tick (PanelMoves panel.now) ∷ past)) }
+        ensures orders { (rules : RuleSet) (past : List FrontEvent) → FrontStands rules self.old past
+            → orders.new.items ≡ peripheral_orders rules (front_event tick (PanelMoves panel.now)) past }
+        ensures notes { (rules : RuleSet) (past : List FrontEvent) → FrontStands rules self.old past
+            → notes.new.items ≡ front_notes rules tick (PanelMoves panel.now) past }
+        ensures lives { (count : ℕ) → FrontLivesWithin count self.old → FrontLivesWithin (count + 1) self.new }
     {
         let before = self.health;
         let after = health_moved(before, panel, self.selector.buttons_up());
         self.selector.panel(tick, panel);
         self.health = after;
         let change = change_between(before, after);
+        self.peripherals.change(change, tick, orders);
         note_change(change, panel, notes);
         change
+    }
+
+    /// A peripheral is attached to this plug.
+    #[inline(never)]
+    pub fn attach(&mut self, tick: Tick, plug: Plug, orders: &mut Orders)
+        requires lives { FrontLivesWithin (u32.MAX - 1) self.old }
+        requires no_orders { orders.old.items ≡ [] }
+        ensures stands { (rules : RuleSet) (past : List FrontEvent) → FrontStands rules self.old past
+            → FrontStands rules self.new (front_event tick (Attaches plug) ∷ past) }
+        ensures orders { (rules : RuleSet) (past : List FrontEvent) → FrontStands rules self.old past
+            → orders.new.items ≡ peripheral_orders rules (front_event tick (Attaches plug)) past }
+        ensures lives { (count : ℕ) → FrontLivesWithin count self.old → FrontLivesWithin (count + 1) self.new }
+    {
+        self.peripherals.attach(plug, tick, orders);
+    }
+
+    /// What is at this plug is taken off.
+    #[inline(never)]
+    pub fn detach(&mut self, plug: Plug, orders: &mut Orders)
+        requires { orders.old.items ≡ [] }
+        ensures stands { (rules : RuleSet) (tick : ℕ) (past : List FrontEvent) → FrontStands rules self.old past
+            → FrontStands rules self.new (front_event tick (Detaches plug) ∷ past) }
+        ensures orders { (rules : RuleSet) (tick : ℕ) (past : List FrontEvent) → FrontStands rules self.old past
+            → orders.new.items ≡ peripheral_orders rules (front_event tick (Detaches plug)) past }
+        ensures lives { (count : ℕ) → FrontLivesWithin count self.old → FrontLivesWithin count self.new }
+    {
+        self.peripherals.detach(plug, orders);
+    }
+
+    /// What is at this plug replies to the order of this number in this life.
+    #[inline(never)]
+    pub fn reply(
+        &mut self,
+        tick: Tick,
+        plug: Plug,
+        life: u32,
+        number: u32,
+        status: u8,
+        bytes: &[u8],
+        orders: &mut Orders,
+        notes: &mut Notes,
+    )
+        requires no_orders { orders.old.items ≡ [] }
+        requires no_notes { notes.old.items ≡ [] }
+        ensures stands { (rules : RuleSet) (past : List FrontEvent) → FrontStands rules self.old past
+            → FrontStands rules self.new (front_event tick (Replies plug life number status bytes.now) ∷ past) }
+        ensures orders { (rules : RuleSet) (past : List FrontEvent) → FrontStands rules self.old past
+            → orders.new.items
+            ≡ peripheral_orders rules (front_event tick (Replies plug life number status bytes.now)) past }
+        ensures notes { (rules : RuleSet) (past : List FrontEvent) → FrontStands rules self.old past
+            → notes.new.items ≡ front_notes rules tick (Replies plug life number status bytes.now) past }
+        ensures lives { (count : ℕ) → FrontLivesWithin count self.old → FrontLivesWithin count self.new }
+    {
+        self.peripherals.reply(
+            &self.rules,
+            plug,
+            life,
+            number,
+            tick,
+            status,
+            bytes,
+            orders,
+            notes,
+        );
+    }
+
+    /// What is at this plug sends a report of an interface.
+    #[inline(never)]
+    pub fn report(&mut self, plug: Plug, interface: u8, bytes: &[u8])
+        ensures stands { (rules : RuleSet) (tick : ℕ) (past : List FrontEvent) → FrontStands rules self.old past
+            → FrontStands rules self.new (front_event tick (Reports plug interface bytes.now) ∷ past) }
+        ensures lives { (count : ℕ) → FrontLivesWithin count self.old → FrontLivesWithin count self.new }
+    {
+        self.peripherals.report(plug, interface, bytes);
+    }
+}
+
+/// Takes a clock event to the selection, while the switch is alive. Gives what it changes.
+fn look(health: Health, selector: &mut Selector, tick: Tick, all_up: bool) -> Move
+    ensures stands { (moments : List Moment) → SelectorStands selector.old moments → SelectorStands selector.new
+        (if is_alive health then Ticked tick all_up ∷ moments else moments) }
+    ensures answer { (moments : List Moment) → SelectorStands selector.old moments → result
+        ≡ (if is_alive health then move_of (choice_after moments) (choice_after (Ticked tick all_up ∷ moments))
+        else Move.Stay) }
+{
+    match health {
+        Health::Testing { .. } => Move::Stay,
+        Health::Alive => selector.clock(tick, all_up),
+        Health::Dark => Move::Stay,
     }
 }
 

@@ -1,10 +1,10 @@
 //! What doesn't depend on what computers do, as laws: each function's contract is one, and its body is empty.
-ghost use Rattle.switch_core.specs.Independence.{LogIgnoresActs, SameViewSameLines, ViewIgnoresOthers};
+ghost use Rattle.switch_core.specs.Independence.{ConsoleIgnoresActs, SameViewSameLines, ViewIgnoresOthers};
 
-/// The log tells nothing of what computers do: over a run and over it without all their acts it is the same.
-#[tactic(auto, using(crate::proofs::Independence::log_ignores_acts))]
-pub fn log_ignores_acts()
-    ensures { LogIgnoresActs }
+/// The log, and what the keyboard and the mouse are told, tell nothing of what computers do: over a run and over it
+/// without all their acts they are the same.
+pub fn console_ignores_acts()
+    ensures { ConsoleIgnoresActs }
 {}
 
 /// A port's view has nothing of what other computers do: acts of theirs may be taken out, added or exchanged.

@@ -4,6 +4,7 @@
 pub mod front;
 pub mod km_descriptors;
 pub mod laws;
+pub mod peripherals;
 pub mod port;
 pub mod ports;
 mod self_test;

@@ -1,6 +1,7 @@
 //! The ports of a switch: each lies in the place of its number, and is told what concerns it alone.
 ghost use Rattle.std.specs.Prelude.{◌≡◌, ℕ, ◌+◌, ◌<◌, ◌≤◌, List, ◌∷◌, length, false};
 ghost use Rattle.psd_base.specs.Event.{Seen, PortActs};
+ghost use Rattle.peripheral_filter.specs.declared.rule.RuleSet.{RuleSet};
 ghost use Rattle.switch_core.specs.View.{Item, Wakes, Darkens, view};
 ghost use Rattle.switch_core.specs.OnePort.{is_live, line_of};
 ghost use Rattle.switch_core.specs.SlotStands.{AllStand, SlotStands, views_of};
@@ -28,7 +29,7 @@ impl Ports {
     /// So many dark ports.
     pub fn new(alloc: Global, count: u8) -> Result<Ports, AllocError>
         requires { count ≤ MAX_PORTS }
-        ensures stand { IfOk result (λ ports. PortsStand ports (views_of [])) }
+        ensures stand { IfOk result (λ ports. PortsStand ports (λ place. [])) }
         ensures count { IfOk result (λ ports. port_count ports ≡ count) }
     {
         let mut made = Vec::with_capacity(alloc, count as usize)?;
@@ -69,11 +70,11 @@ impl Ports {
     )
         requires { port ≤ port_count self.old }
         ensures count { port_count self.new ≡ port_count self.old }
-        ensures stands { (past : List Seen) → PortsStand self.old (views_of past)
+        ensures stands { (rules : RuleSet) (past : List Seen) → PortsStand self.old (views_of rules past)
             → PortsStand self.new
-            (views_of (record { tick = tick; happening = PortActs port side act.now } ∷ past)) }
-        ensures line { (past : List Seen) → PortsStand self.old (views_of past)
-            → line.new ≡ Some (port, line_of (view port past) tick side act.now) }
+            (views_of rules (record { tick = tick; happening = PortActs port side act.now } ∷ past)) }
+        ensures line { (rules : RuleSet) (past : List Seen) → PortsStand self.old (views_of rules past)
+            → line.new ≡ Some (port, line_of (view rules port past) tick side act.now) }
     {
         match line {
             Some((own, line)) => {
@@ -139,11 +140,11 @@ fn first_line() -> Line {
 fn answer_act(ports: &mut [Slot], tick: Tick, port: PortId, side: Side, act: &Act, line: &mut Line)
     requires { port ≤ length ports.old }
     ensures wired { IsWired ports.old → IsWired ports.new }
-    ensures stands { (past : List Seen) → AllStand ports.old (views_of past)
+    ensures stands { (rules : RuleSet) (past : List Seen) → AllStand ports.old (views_of rules past)
         → AllStand ports.new
-        (views_of (record { tick = tick; happening = PortActs port side act.now } ∷ past)) }
-    ensures line { (past : List Seen) → AllStand ports.old (views_of past)
-        → line.new ≡ line_of (view port past) tick side act.now }
+        (views_of rules (record { tick = tick; happening = PortActs port side act.now } ∷ past)) }
+    ensures line { (rules : RuleSet) (past : List Seen) → AllStand ports.old (views_of rules past)
+        → line.new ≡ line_of (view rules port past) tick side act.now }
 {
     line.tick = tick;
     line.side = side;

@@ -1,19 +1,24 @@
 //! The switch: its ports and its front, and the step that serves one event.
-ghost use Rattle.std.specs.Prelude.{◌≡◌, ◌+◌, ◌<◌, ◌≤◌, List, [], ◌∷◌, IfOk};
-ghost use Rattle.psd_base.specs.Event.{Seen, seen, happening_of, HappensWithin, PanelMoves};
-ghost use Rattle.switch_core.specs.Chosen.{IsKnownCheck};
-ghost use Rattle.switch_core.specs.FrontMoments.{moments_in};
-ghost use Rattle.switch_core.specs.Notes.{notes_at};
+ghost use Rattle.std.specs.Prelude.{◌≡◌, ℕ, ◌+◌, ◌-◌, ◌<◌, ◌≤◌, List, [], ◌∷◌, IfOk};
+ghost use Rattle.psd_base.specs.Event.{Seen, seen, happening_of, HappensWithin, AtFront, PanelMoves};
+ghost use Rattle.peripheral_filter.specs.declared.rule.RuleSet.{RuleSet};
+ghost use Rattle.switch_core.specs.FrontEvents.{FrontEvent, front_event, front_of};
+ghost use Rattle.switch_core.specs.FrontHealth.{IsKnownCheck};
+ghost use Rattle.switch_core.specs.Gives.{gives_at, gives_of};
+ghost use Rattle.switch_core.specs.Notes.{front_notes, notes_at};
+ghost use Rattle.switch_core.specs.Orders.{orders_at};
 ghost use Rattle.switch_core.specs.SlotStands.{views_of};
 ghost use Rattle.switch_core.specs.PortsStand.{PortsStand, port_count};
 ghost use Rattle.switch_core.specs.Lines.{line_at};
-ghost use Rattle.switch_core.specs.FrontStands.{FrontStands};
+ghost use Rattle.switch_core.specs.FrontStands.{FrontLivesWithin, FrontStands};
+ghost use Rattle.switch_core.specs.Peripherals.{peripheral_orders};
 
 use crate::front::Front;
 use crate::ports::Ports;
 use crate::turn::Turn;
 use fail_secure::HealthChange;
-use psd_base::console::{Notes, Panel};
+use peripheral_filter::RuleSet;
+use psd_base::console::{Notes, Orders, Panel};
 use psd_base::event::{EVENTS_MAX, Event, Tick, What};
 use psd_base::port::MAX_PORTS;
 use std::alloc::{AllocError, Global};
@@ -24,24 +29,26 @@ pub struct Switch {
     ports: Ports,
     front: Front,
     served: u32,
+    ghost few_lives: { FrontLivesWithin served front },
 }
 
 impl Switch {
     ghost use Rattle.switch_core.specs.StandsFor.{StandsFor, port_total};
-    ghost use Rattle.switch_core.specs.Lines.{line_at};
 
-    /// A switch of 2 to `MAX_PORTS` ports in self-test, which served no event.
-    pub fn new(alloc: Global, ports: u8) -> Result<Switch, AllocError>
+    /// A switch of 2 to `MAX_PORTS` ports in self-test, which served no event. What is attached at its console is judged
+    /// by these rules.
+    pub fn new(alloc: Global, rules: RuleSet, ports: u8) -> Result<Switch, AllocError>
         requires few { 2 ≤ ports }
         requires many { ports ≤ MAX_PORTS }
-        ensures stands { IfOk result (λ switch. StandsFor switch []) }
+        ensures stands { IfOk result (λ switch. StandsFor rules switch []) }
         ensures ports { IfOk result (λ switch. port_total switch ≡ ports) }
         ensures served { IfOk result (λ switch. switch.served ≡ 0) }
     {
         let ports = Ports::new(alloc, ports)?;
+        let front = Front::new(alloc, rules)?;
         Ok(Switch {
             ports,
-            front: Front::new(),
+            front,
             served: 0,
         })
     }
@@ -57,68 +64,124 @@ impl Switch {
     pub fn step(&mut self, event: &Event, turn: &mut Turn)
         requires known { HappensWithin (port_total self.old) (happening_of event.now.what) }
         requires room { self.old.served < EVENTS_MAX }
-        ensures stands { (past : List Seen) → StandsFor self.old past
-            → StandsFor self.new (seen event.now ∷ past) }
-        ensures line { (past : List Seen) → StandsFor self.old past
-            → turn.new.line ≡ line_at (seen event.now) past }
-        ensures notes { (past : List Seen) → StandsFor self.old past
-            → turn.new.notes.items ≡ notes_at (seen event.now) past }
+        ensures stands { (rules : RuleSet) (past : List Seen) → StandsFor rules self.old past
+            → StandsFor rules self.new (seen event.now ∷ past) }
+        ensures gives { (rules : RuleSet) (past : List Seen) → StandsFor rules self.old past
+            → gives_of turn.new ≡ gives_at rules (seen event.now) past }
         ensures served { self.new.served ≡ self.old.served + 1 }
         ensures ports { port_total self.new ≡ port_total self.old }
     {
-        if !turn.notes.is_empty() {
-            turn.notes.clear();
-        }
-        serve(&mut self.ports, &mut self.front, event, turn);
+        turn.begin();
         self.served += 1;
+        serve(&mut self.ports, &mut self.front, event, turn);
     }
 }
 
-/// Serves one event of a turn without notes.
+/// Serves one event of a turn without orders and notes.
 fn serve(ports: &mut Ports, front: &mut Front, event: &Event, turn: &mut Turn)
     requires known { HappensWithin (port_count ports.old) (happening_of event.now.what) }
-    requires empty { turn.old.notes.items ≡ [] }
+    requires lives { FrontLivesWithin (u32.MAX - 1) front.old }
+    requires no_orders { turn.old.orders.items ≡ [] }
+    requires no_notes { turn.old.notes.items ≡ [] }
     ensures count { port_count ports.new ≡ port_count ports.old }
-    ensures ports { (past : List Seen) → FrontStands front.old (moments_in past)
-        → PortsStand ports.old (views_of past)
-        → PortsStand ports.new (views_of (seen event.now ∷ past)) }
-    ensures front { (past : List Seen) → FrontStands front.old (moments_in past)
-        → FrontStands front.new (moments_in (seen event.now ∷ past)) }
-    ensures line { (past : List Seen) → PortsStand ports.old (views_of past)
-        → turn.new.line ≡ line_at (seen event.now) past }
-    ensures notes { (past : List Seen) → FrontStands front.old (moments_in past)
-        → turn.new.notes.items ≡ notes_at (seen event.now) past }
+    ensures ports { (rules : RuleSet) (past : List Seen) → FrontStands rules front.old (front_of past)
+        → PortsStand ports.old (views_of rules past)
+        → PortsStand ports.new (views_of rules (seen event.now ∷ past)) }
+    ensures front { (rules : RuleSet) (past : List Seen) → FrontStands rules front.old (front_of past)
+        → FrontStands rules front.new (front_of (seen event.now ∷ past)) }
+    ensures line { (rules : RuleSet) (past : List Seen) → PortsStand ports.old (views_of rules past)
+        → turn.new.line ≡ line_at rules (seen event.now) past }
+    ensures orders { (rules : RuleSet) (past : List Seen) → FrontStands rules front.old (front_of past)
+        → turn.new.orders.items ≡ orders_at rules (seen event.now) past }
+    ensures notes { (rules : RuleSet) (past : List Seen) → FrontStands rules front.old (front_of past)
+        → turn.new.notes.items ≡ notes_at rules (seen event.now) past }
+    ensures lives { (count : ℕ) → FrontLivesWithin count front.old → FrontLivesWithin (count + 1) front.new }
 {
+    let tick = event.tick;
     match &event.what {
-        What::Clock => {
-            turn.line = None;
-            let _ = front.clock(event.tick, true, &mut turn.notes);
-        }
         What::Port(port, side, act) => {
-            ports.serve_act(event.tick, *port, *side, act, &mut turn.line);
+            ports.serve_act(tick, *port, *side, act, &mut turn.line);
+        }
+        What::Clock => {
+            turn.drop_line();
+            let _ = front.clock(tick, &mut turn.orders, &mut turn.notes);
         }
         What::Panel(panel) => {
-            turn.line = None;
-            serve_move(ports, front, event.tick, panel, &mut turn.notes);
+            turn.drop_line();
+            serve_move(
+                ports,
+                front,
+                tick,
+                *panel,
+                &mut turn.orders,
+                &mut turn.notes,
+            );
+        }
+        What::Attach(plug) => {
+            turn.drop_line();
+            front.attach(tick, *plug, &mut turn.orders);
+        }
+        What::Detach(plug) => {
+            turn.drop_line();
+            front.detach(*plug, &mut turn.orders);
+        }
+        What::Reply {
+            plug,
+            life,
+            number,
+            status,
+            bytes,
+        } => {
+            turn.drop_line();
+            front.reply(
+                tick,
+                *plug,
+                *life,
+                *number,
+                *status,
+                bytes,
+                &mut turn.orders,
+                &mut turn.notes,
+            );
+        }
+        What::Report {
+            plug,
+            interface,
+            bytes,
+        } => {
+            turn.drop_line();
+            front.report(*plug, *interface, bytes);
         }
     }
 }
 
 /// Serves a move at the panel.
-fn serve_move(ports: &mut Ports, front: &mut Front, tick: Tick, panel: &Panel, notes: &mut Notes)
-    requires known { IsKnownCheck panel.now }
-    requires empty { notes.old.items ≡ [] }
+#[inline(never)]
+fn serve_move(
+    ports: &mut Ports,
+    front: &mut Front,
+    tick: Tick,
+    panel: Panel,
+    orders: &mut Orders,
+    notes: &mut Notes,
+)
+    requires known { IsKnownCheck panel }
+    requires lives { FrontLivesWithin (u32.MAX - 1) front.old }
+    requires no_orders { orders.old.items ≡ [] }
+    requires no_notes { notes.old.items ≡ [] }
     ensures count { port_count ports.new ≡ port_count ports.old }
-    ensures ports { (past : List Seen) → FrontStands front.old (moments_in past)
-        → PortsStand ports.old (views_of past)
-        → PortsStand ports.new (views_of (record { tick = tick; happening = PanelMoves panel.now } ∷ past)) }
-    ensures front { (past : List Seen) → FrontStands front.old (moments_in past)
-        → FrontStands front.new
-        (moments_in (record { tick = tick; happening = PanelMoves panel.now } ∷ past)) }
-    ensures notes { (past : List Seen) → FrontStands front.old (moments_in past)
-        → notes.new.items ≡ notes_at (record { tick = tick; happening = PanelMoves panel.now }) past }
+    ensures ports { (rules : RuleSet) (past : List Seen) → FrontStands rules front.old (front_of past)
+        → PortsStand ports.old (views_of rules past) → PortsStand ports.new
+        (views_of rules (record { tick = tick; happening = AtFront (PanelMoves panel) } ∷ past)) }
+    ensures front { (rules : RuleSet) (past : List FrontEvent) → FrontStands rules front.old past
+        → FrontStands rules front.new (front_event tick (PanelMoves panel) ∷ past) }
+    ensures orders { (rules : RuleSet) (past : List FrontEvent) → FrontStands rules front.old past
+        → orders.new.items ≡ peripheral_orders rules (front_event tick (PanelMoves panel)) past }
+    ensures notes { (rules : RuleSet) (past : List FrontEvent) → FrontStands rules front.old past
+        → notes.new.items ≡ front_notes rules tick (PanelMoves panel) past }
+    ensures lives { (count : ℕ) → FrontLivesWithin count front.old → FrontLivesWithin (count + 1) front.new }
 {
-    match front.moved(tick, panel, notes) {
+    match front.moved(tick, &panel, orders, notes) {
         HealthChange::Stays => {}
         HealthChange::Wakes => ports.wake(),
         HealthChange::Darkens => ports.darken(),

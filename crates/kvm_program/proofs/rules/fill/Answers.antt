@@ -1,8 +1,8 @@
 -- A piece more, or all.
-use Rattle.std.proofs.Common.{◌≡◌, ℕ, false, nat_lt, length, ap, ◌∙◌, Ok, arith}
+use Rattle.std.proofs.Common.{◌≡◌, ℕ, false, nat_lt, length, refl, ap, ◌∙◌, Ok, arith}
 use Rattle.std.proofs.lemmas.Bool.Decides.{nat_tests}
 use Rattle.psd_base.specs.declared.outlet.Input.TheVariants as input
-use Rattle.kvm_program.proofs.Taking.{told_more, ended_more, taken_whole}
+use Rattle.kvm_program.proofs.Taking.{told_more, ended_more, taken_few, taken_whole}
 use Rattle.kvm_program.proofs.rules.fill.Goals as goal
 use Rattle.kvm_program.proofs.rules.fill.Goals.{then-reads-test+else-count-into, else-reads-test}
 
@@ -34,3 +34,11 @@ returns-clause-bytes g c =
       | then-reads-test+else-count-into w ↦ λ apart. absurd (apart (omega arith))
       | else-reads-test w ↦ λ apart. c.reads.invariant.ended w.reads-test.false
     ])
+
+pub returns-clause-few : goal.returns-clause-few
+returns-clause-few g c =
+    taken_few c.reads.into c.reads.count (length c.args.into.now) _ _ _ c.reads.auto.into (omega arith) c.reads.invariant.told refl
+
+pub returns-in-Err-clause-few : goal.returns-in-Err-clause-few
+returns-in-Err-clause-few g c =
+    taken_few c.reads.into c.reads.count (length c.args.into.now) _ _ _ c.reads.auto.into (omega arith) c.reads.invariant.told c.in-Err.ensures.stays

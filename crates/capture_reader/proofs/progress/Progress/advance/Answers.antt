@@ -2,8 +2,11 @@
 use Rattle.std.proofs.Common.{inr, refl, ap, ◌∙◌}
 use Rattle.std.proofs.lemmas.Result.{IfErr-weaker}
 use Rattle.psd_base.specs.declared.outlet.Input.TheVariants as inputs
-use Rattle.capture_reader.specs.Progress.{reading}
-use Rattle.capture_reader.specs.Reader.{rest}
+use Rattle.capture_reader.specs.declared.progress.State.{State}
+use Rattle.capture_reader.specs.Ahead.{ahead_of, line_of}
+use Rattle.capture_reader.specs.Progress.{reading, given_in}
+use Rattle.capture_reader.specs.Reader.{rest, records_held, lines_held}
+use Rattle.capture_reader.proofs.Giving.{gave_same, looked_and_gave, looks_at, gave_of_capture, gave_of_script, too_long_behind, capture_behind, script_behind}
 use Rattle.capture_reader.proofs.Upcoming.{capture_stops, script_stops, ended, too_long, not_ok_true, record_lines, lines_still}
 use Rattle.capture_reader.proofs.progress.Progress.advance.Goals as goal
 
@@ -97,3 +100,74 @@ returns-in-Err-look_at_line-clause-cause g c =
     let failed = c.in-Err-look_at_line.ensures.err in
     inr (script_stops new before capture_left script_left (g.D.Desk.told c.args.desk.now) (g.D.Desk.told c.look_at_line.new.desk) c.in-Err-look_at_line.stop c.in-Err-look_at_line.stop
     failed.0 failed.1 c.look_at_line.ensures.sound.same_ports looked failed.2)
+
+-- what was taken
+
+pub returns-in-Stopped-clause-took : goal.returns-in-Stopped-clause-took
+returns-in-Stopped-clause-took g c =
+    let now = c.args.self.now in
+    gave_same now (g.D.Desk.told c.args.desk.now) (ap (λ (state : State). given_in state (ahead_of now.capture.ahead) (line_of now.script.ahead)) c.in-Stopped.is)
+
+pub returns-in-Ok-clause-took : goal.returns-in-Ok-clause-took
+returns-in-Ok-clause-took g c =
+    let now = c.args.self.now in
+    let told = g.D.Desk.told c.args.desk.now in
+    let told_after = g.D.Desk.told c.look_at_record.new.desk in
+    looked_and_gave (records_held now.capture.ports (reading now).capture) (lines_held (reading now).script) c.look_at_record.new.self c.give-in-Ok.new.self told told_after c.in-Ok.ensures.ok
+    c.give-in-Ok.ensures.counts.1 c.give-in-Ok.ensures.counts.2 c.look_at_record.ensures.took (c.give-in-Ok.ensures.took told_after)
+
+pub returns-in-Ok-look_at_line-clause-took : goal.returns-in-Ok-look_at_line-clause-took
+returns-in-Ok-look_at_line-clause-took g c =
+    let now = c.args.self.now in
+    let told = g.D.Desk.told c.args.desk.now in
+    let told_after = g.D.Desk.told c.look_at_line.new.desk in
+    looked_and_gave (records_held now.capture.ports (reading now).capture) (lines_held (reading now).script) c.look_at_line.new.self c.give-in-Ok-look_at_line.new.self told told_after c.in-Ok-look_at_line.ensures.ok
+    c.give-in-Ok-look_at_line.ensures.counts.1 c.give-in-Ok-look_at_line.ensures.counts.2 c.look_at_line.ensures.took (c.give-in-Ok-look_at_line.ensures.took told_after)
+
+-- where a read is tried, and behind what it fails
+
+pub returns-in-Ok-clause-looks : goal.returns-in-Ok-clause-looks
+returns-in-Ok-clause-looks g c =
+    looks_at (reading c.args.self.now).given inputs.Capture (g.D.Desk.told c.args.desk.now) (g.D.Desk.told c.look_at_record.new.desk)
+    (gave_of_capture c.args.self.now c.requires.sound c.in-GivenRecord.is) c.look_at_record.ensures.only
+
+pub returns-in-Err-clause-looks : goal.returns-in-Err-clause-looks
+returns-in-Err-clause-looks g c =
+    looks_at (reading c.args.self.now).given inputs.Capture (g.D.Desk.told c.args.desk.now) (g.D.Desk.told c.look_at_record.new.desk)
+    (gave_of_capture c.args.self.now c.requires.sound c.in-GivenRecord.is) c.look_at_record.ensures.only
+
+pub returns-in-Ok-look_at_line-clause-looks : goal.returns-in-Ok-look_at_line-clause-looks
+returns-in-Ok-look_at_line-clause-looks g c =
+    looks_at (reading c.args.self.now).given inputs.Script (g.D.Desk.told c.args.desk.now) (g.D.Desk.told c.look_at_line.new.desk)
+    (gave_of_script c.args.self.now c.requires.sound c.in-GivenLine.is) c.look_at_line.ensures.only
+
+pub returns-in-Err-look_at_line-clause-looks : goal.returns-in-Err-look_at_line-clause-looks
+returns-in-Err-look_at_line-clause-looks g c =
+    looks_at (reading c.args.self.now).given inputs.Script (g.D.Desk.told c.args.desk.now) (g.D.Desk.told c.look_at_line.new.desk)
+    (gave_of_script c.args.self.now c.requires.sound c.in-GivenLine.is) c.look_at_line.ensures.only
+
+pub returns-in-Waiting-clause-behind : goal.returns-in-Waiting-clause-behind
+returns-in-Waiting-clause-behind g c =
+    IfErr-weaker c.give.result _ _ (λ stop is. inr (too_long_behind (reading c.args.self.now).given stop is.0)) c.give.ensures.stop
+
+pub returns-in-Ok-clause-behind : goal.returns-in-Ok-clause-behind
+returns-in-Ok-clause-behind g c =
+    IfErr-weaker c.give-in-Ok.result _ _ (λ stop is. inr (too_long_behind (reading c.args.self.now).given stop is.0)) c.give-in-Ok.ensures.stop
+
+pub returns-in-Ok-look_at_line-clause-behind : goal.returns-in-Ok-look_at_line-clause-behind
+returns-in-Ok-look_at_line-clause-behind g c =
+    IfErr-weaker c.give-in-Ok-look_at_line.result _ _ (λ stop is. inr (too_long_behind (reading c.args.self.now).given stop is.0)) c.give-in-Ok-look_at_line.ensures.stop
+
+pub returns-in-Err-clause-behind : goal.returns-in-Err-clause-behind
+returns-in-Err-clause-behind g c =
+    let now = c.args.self.now in
+    let source = c.look_at_record.new.self.capture in
+    inr (capture_behind (reading now).given source.ports source.tick source.offset source.window (g.D.Desk.told c.args.desk.now) (g.D.Desk.told c.look_at_record.new.desk) c.in-Err.stop
+    (gave_of_capture now c.requires.sound c.in-GivenRecord.is) c.in-Err.ensures.err.2)
+
+pub returns-in-Err-look_at_line-clause-behind : goal.returns-in-Err-look_at_line-clause-behind
+returns-in-Err-look_at_line-clause-behind g c =
+    let now = c.args.self.now in
+    let source = c.look_at_line.new.self.script in
+    inr (script_behind (reading now).given source.ports source.tick source.line source.window (g.D.Desk.told c.args.desk.now) (g.D.Desk.told c.look_at_line.new.desk) c.in-Err-look_at_line.stop
+    (gave_of_script now c.requires.sound c.in-GivenLine.is) c.in-Err-look_at_line.ensures.err.2)

@@ -11,6 +11,7 @@ use Rattle.capture_reader.specs.Script.{script}
 use Rattle.capture_reader.specs.Source.{later, later_of}
 use Rattle.capture_reader.specs.Window.{Held}
 use Rattle.capture_reader.proofs.FirstLook.{schedules, unread_script, port_count_told, open_is_new, failed_since}
+use Rattle.capture_reader.proofs.FirstTaken.{all_took, first_of_all}
 use Rattle.capture_reader.proofs.progress.Progress.begin.Goals as goal
 use Rattle.capture_reader.proofs.progress.Progress.begin.Goals.{After-first_line}
 use Rattle.capture_reader.proofs.progress.Progress.begin.Given as given
@@ -63,3 +64,19 @@ pub returns-in-Err-clause-err : goal.returns-in-Err-clause-err
 returns-in-Err-clause-err g c =
     let left = (g.D.Desk.told c.args.desk.now).left in
     open_is_new c.args.limit (g.D.Desk.told c.args.desk.now) (g.D.Desk.told c.open.new.desk) c.in-Err.stop c.in-Err.ensures.err
+
+pub returns-in-Ok-clause-took : goal.returns-in-Ok-clause-took
+returns-in-Ok-clause-took g c =
+    let empty = ap (λ (source : ScriptSource). source.window.bytes) c.new-script.ensures ∙ ap (λ (window : Held). window.bytes) c.requires.script in
+    IfOk-weaker c.first_line.result _ _ (λ progress took.
+    all_took c.in-Ok.capture c.new-script.result progress (g.D.Desk.told c.args.desk.now) (g.D.Desk.told c.open.new.desk) (g.D.Desk.told c.first_line.new.desk) empty
+    (c.open.ensures.only.inputs inputs.Script (λ same. cc)) c.in-Ok.ensures.took took)
+    c.first_line.ensures.took
+
+pub returns-in-Ok-clause-first : goal.returns-in-Ok-clause-first
+returns-in-Ok-clause-first g c =
+    let empty = ap (λ (source : ScriptSource). source.window.bytes) c.new-script.ensures ∙ ap (λ (window : Held). window.bytes) c.requires.script in
+    IfErr-weaker c.first_line.result _ _ (λ stop failed.
+    first_of_all c.in-Ok.capture c.new-script.result (g.D.Desk.told c.args.desk.now) (g.D.Desk.told c.open.new.desk) (g.D.Desk.told c.first_line.new.desk) stop empty
+    (c.open.ensures.only.inputs inputs.Script (λ same. cc)) c.in-Ok.ensures.took failed)
+    c.first_line.ensures.first

@@ -2,13 +2,15 @@
 use Rattle.std.proofs.Common.{◌∙◌, Option, ap, sym, subst}
 use Rattle.std.proofs.lemmas.Result.{IfOk-weaker, IfErr-weaker}
 use Rattle.psd_base.specs.declared.outlet.Input.TheVariants as inputs
-use Rattle.capture_reader.specs.Lines.{lines_with_ahead, later_lines_of}
+use Rattle.capture_reader.specs.Lines.{lines_in, lines_with_ahead, later_lines_of}
 use Rattle.capture_reader.specs.Progress.{reading}
 use Rattle.capture_reader.specs.Reader.{rest, NewFailed}
 use Rattle.capture_reader.specs.Merge.{merged}
 use Rattle.capture_reader.specs.Schedule.{Schedule}
-use Rattle.capture_reader.specs.Source.{later_of}
+use Rattle.capture_reader.specs.Source.{records_in, later_of}
 use Rattle.capture_reader.proofs.FirstLook.{script_failed, failed_since}
+use Rattle.capture_reader.proofs.FirstTaken.{first_took, first_since, script_first}
+use Rattle.capture_reader.proofs.Counting.{IfOk-both}
 use Rattle.capture_reader.proofs.progress.Progress.first_line.Goals as goal
 
 pub returns-in-Ok-clause-rest : goal.returns-in-Ok-clause-rest
@@ -42,3 +44,21 @@ returns-in-Err-clause-err g c =
     let left = (g.D.Desk.told c.args.desk.now).left in
     script_failed c.look.new.self c.args.limit (later_of c.args.capture (left inputs.Capture)) (later_lines_of c.args.script (left inputs.Script)) ((g.D.Desk.told c.look.new.desk).left inputs.Script)
     (g.D.Desk.told c.args.desk.now) (g.D.Desk.told c.look.new.desk) c.in-Err.stop c.in-Err.ensures.stays c.in-Err.ensures.err
+
+pub returns-in-Ok-clause-took : goal.returns-in-Ok-clause-took
+returns-in-Ok-clause-took g c =
+    IfOk-both c.first_record.result _ _ _ (λ progress took is.
+    first_took c.args.capture c.args.script c.look.new.self progress (g.D.Desk.told c.args.desk.now) (g.D.Desk.told c.look.new.desk) (g.D.Desk.told c.first_record.new.desk)
+    (c.look.ensures.only.inputs inputs.Capture (λ same. cc)) is c.look.ensures.took took)
+    c.first_record.ensures.took c.first_record.ensures.script
+
+pub returns-in-Ok-clause-first : goal.returns-in-Ok-clause-first
+returns-in-Ok-clause-first g c =
+    IfErr-weaker c.first_record.result _ _ (λ stop failed.
+    first_since (records_in c.args.capture) (lines_in c.args.script) (g.D.Desk.told c.args.desk.now) (g.D.Desk.told c.look.new.desk) (g.D.Desk.told c.first_record.new.desk) stop
+    (c.look.ensures.only.inputs inputs.Capture (λ same. cc)) failed)
+    (c.first_record.ensures.first (λ _. 1))
+
+pub returns-in-Err-clause-first : goal.returns-in-Err-clause-first
+returns-in-Err-clause-first g c =
+    script_first c.args.script c.look.new.self (records_in c.args.capture) (g.D.Desk.told c.args.desk.now) (g.D.Desk.told c.look.new.desk) c.in-Err.stop c.in-Err.ensures.none c.look.ensures.took c.in-Err.ensures.err

@@ -1,8 +1,13 @@
 -- The next of the events that were read ahead is given, or there is none, or it is one too many.
-use Rattle.std.proofs.Common.{refl, sym, ◌∙◌}
+use Rattle.std.proofs.Common.{refl, ap, sym, ◌∙◌}
 use Rattle.std.proofs.lemmas.Result.{IfErr-weaker}
+use Rattle.psd_base.specs.declared.stop.Stop.TheVariants as stops
+use Rattle.capture_reader.specs.declared.progress.State.{State}
+use Rattle.capture_reader.specs.Progress.{given_in}
+use Rattle.capture_reader.specs.Ahead.{ahead_of, line_of}
 use Rattle.capture_reader.proofs.Merging.{end_step}
 use Rattle.capture_reader.proofs.Upcoming.{only_stops, record_given, line_given, record_refused, line_refused, refused_rest, nothing_comes}
+use Rattle.capture_reader.proofs.Giving.{gave, gave_record, gave_line, gave_nothing, gave_same}
 use Rattle.capture_reader.proofs.progress.Progress.give.Goals as goal
 
 pub returns-in-Record-clause-next : goal.returns-in-Record-clause-next
@@ -43,5 +48,24 @@ returns-in-Line-clause-stop c =
 pub returns-in-End-clause-end : goal.returns-in-End-clause-end
 returns-in-End-clause-end c is =
     let now = c.args.self.now in
-    let none = end_step now.capture.ahead now.script.ahead (sym c.next_source.ensures ∙ c.in-End.is) in
+    let none = end_step (ahead_of now.capture.ahead) (line_of now.script.ahead) (sym c.next_source.ensures ∙ c.in-End.is) in
     (refl, none.0, none.1, nothing_comes now c.requires.sound c.requires.waiting none.0 none.1)
+
+pub returns-in-Record-clause-took : goal.returns-in-Record-clause-took
+returns-in-Record-clause-took c told =
+    let now = c.args.self.now in
+    let new = c.go_on.new.self in
+    gave c.go_on.result c.go_on.ensures.some (λ is. gave_record now new now.capture.tick told c.requires.sound c.requires.waiting (c.go_on.ensures.more is).1)
+    (λ stop is. gave_nothing now new stops.TooLong told c.requires.waiting is.2) c.go_on.ensures.full
+
+pub returns-in-Line-clause-took : goal.returns-in-Line-clause-took
+returns-in-Line-clause-took c told =
+    let now = c.args.self.now in
+    let new = c.go_on-in-Line.new.self in
+    gave c.go_on-in-Line.result c.go_on-in-Line.ensures.some (λ is. gave_line now new now.script.tick told c.requires.sound c.requires.waiting (c.go_on-in-Line.ensures.more is).1)
+    (λ stop is. gave_nothing now new stops.TooLong told c.requires.waiting is.2) c.go_on-in-Line.ensures.full
+
+pub returns-in-End-clause-took : goal.returns-in-End-clause-took
+returns-in-End-clause-took c told =
+    let now = c.args.self.now in
+    gave_same now told (ap (λ (state : State). given_in state (ahead_of now.capture.ahead) (line_of now.script.ahead)) c.requires.waiting)

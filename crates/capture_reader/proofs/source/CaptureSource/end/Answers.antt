@@ -3,7 +3,7 @@ use Rattle.std.proofs.Common.{◌≡◌, ◌<◌, length, sym, subst, arith}
 use Rattle.std.proofs.lemmas.List.{nil_from_length}
 use Rattle.psd_base.specs.declared.stop.Stop.{Stop}
 use Rattle.capture_reader.specs.Source.{LookFailed}
-use Rattle.capture_reader.proofs.Ahead.{ends_empty, ends_short}
+use Rattle.capture_reader.proofs.Looks.{ends_empty, ends_short}
 use Rattle.capture_reader.proofs.source.CaptureSource.end.Goals as goal
 
 pub returns-then-len-eq0-clause-ok : goal.returns-then-len-eq0-clause-ok

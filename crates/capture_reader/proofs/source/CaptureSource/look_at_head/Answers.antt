@@ -1,10 +1,9 @@
 -- A faulty head shows its fault, whatever comes behind it.
 use Rattle.std.proofs.Common.{sym, ap, ◌∙◌, subst}
-use Rattle.psd_base.specs.declared.outlet.Input.TheVariants as inputs
 use Rattle.psd_base.specs.declared.stop.Stop.{Stop}
 use Rattle.capture_reader.specs.Capture.{head_of, announced}
 use Rattle.capture_reader.specs.Source.{LookFailed}
-use Rattle.capture_reader.proofs.Ahead.{ends_head}
+use Rattle.capture_reader.proofs.Looks.{ends_head}
 use Rattle.capture_reader.proofs.source.CaptureSource.look_at_head.Goals as goal
 
 pub returns-in-Err-clause-err : goal.returns-in-Err-clause-err

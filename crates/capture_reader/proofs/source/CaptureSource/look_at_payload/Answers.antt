@@ -3,10 +3,11 @@ use Rattle.std.proofs.Common.{Ok, ◌∙◌, ap, sym, subst}
 use Rattle.std.proofs.lemmas.Result.{on_ok_weaker, on_err_weaker}
 use Rattle.psd_base.specs.declared.outlet.Input.TheVariants as inputs
 use Rattle.psd_base.specs.declared.stop.Stop.{Stop}
-use Rattle.psd_base.specs.Event.{seen}
+use Rattle.capture_reader.specs.Ahead.{ahead_of}
 use Rattle.capture_reader.specs.declared.source.CaptureSource.{CaptureSource}
 use Rattle.capture_reader.specs.Source.{LookFailed, later}
-use Rattle.capture_reader.proofs.Ahead.{announces_longer, ends_cut, partial_cut, later_still, later_moves, some_and}
+use Rattle.capture_reader.proofs.Looks.{announces_longer, ends_cut, partial_cut, later_still, later_moves, some_and}
+use Rattle.capture_reader.proofs.Counting.{record_took}
 use Rattle.capture_reader.proofs.source.CaptureSource.look_at_payload.Goals as goal
 
 pub returns-in-Ok-true-clause-ok : goal.returns-in-Ok-true-clause-ok
@@ -17,8 +18,8 @@ returns-in-Ok-true-clause-ok g c =
     let left_after = (g.D.Desk.told c.hold.new.desk).left inputs.Capture in
     let before = later_still now.ports now.tick now.offset now.window c.hold.new.self left left_after c.hold.ensures.still in
     on_ok_weaker c.take_record.result
-    (some_and new.ahead (λ event found.
-    (found.0, before ∙ later_moves now.ports now.tick now.offset new.ports new.tick new.offset c.hold.new.self new.window (seen event) left_after found.1)))
+    (some_and (ahead_of new.ahead) (λ event found.
+    (found.0, before ∙ later_moves now.ports now.tick now.offset new.ports new.tick new.offset c.hold.new.self new.window event left_after found.1)))
     c.take_record.ensures.ahead
 
 pub returns-in-Ok-true-clause-stays : goal.returns-in-Ok-true-clause-stays
@@ -48,7 +49,7 @@ pub returns-in-Err-clause-err : goal.returns-in-Err-clause-err
 returns-in-Err-clause-err g c =
     let now = c.args.self.now in
     let sound = announces_longer now.ports now.tick now.window.bytes c.hold.new.self.bytes c.args.head.now c.args.form c.requires.sound c.hold.ensures.front in
-    (c.in-Err.ensures.failed, partial_cut now.ports now.tick now.offset c.hold.new.self c.args.head.now c.args.form sound c.in-Err.ensures.short)
+    (c.in-Err.ensures.failed, partial_cut now.ports now.tick now.offset c.hold.new.self c.args.head.now c.args.form sound c.in-Err.ensures.short, c.in-Err.ensures.open)
 
 pub returns-in-Ok-false-clause-stays : goal.returns-in-Ok-false-clause-stays
 returns-in-Ok-false-clause-stays g c =
@@ -59,3 +60,10 @@ pub returns-in-Err-clause-stays : goal.returns-in-Err-clause-stays
 returns-in-Err-clause-stays g c =
     let now = c.args.self.now in
     sym (later_still now.ports now.tick now.offset now.window c.hold.new.self ((g.D.Desk.told c.args.desk.now).left inputs.Capture) ((g.D.Desk.told c.hold.new.desk).left inputs.Capture) c.hold.ensures.still)
+
+pub returns-in-Ok-true-clause-took : goal.returns-in-Ok-true-clause-took
+returns-in-Ok-true-clause-took g c =
+    let now = c.args.self.now in
+    on_ok_weaker c.take_record.result
+    (record_took now c.take_record.new.self c.hold.new.self ((g.D.Desk.told c.args.desk.now).left inputs.Capture) ((g.D.Desk.told c.hold.new.desk).left inputs.Capture) _ c.hold.ensures.took c.take_record.ensures.window)
+    c.take_record.ensures.ahead

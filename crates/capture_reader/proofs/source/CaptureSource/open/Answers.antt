@@ -5,6 +5,8 @@ use Rattle.psd_base.specs.declared.outlet.Input.TheVariants as inputs
 use Rattle.capture_reader.specs.Source.{later}
 use Rattle.capture_reader.specs.Window.{Held, still}
 use Rattle.capture_reader.proofs.Opening.{all_is, header_told, header_cut, records_told, open_failed}
+use Rattle.capture_reader.proofs.Counting.{IfOk-both}
+use Rattle.capture_reader.proofs.FirstTaken.{opened, none_opened, capture_stop_first}
 use Rattle.capture_reader.proofs.source.CaptureSource.open.Goals as goal
 
 pub returns-in-Ok-true-clause-header : goal.returns-in-Ok-true-clause-header
@@ -46,3 +48,22 @@ returns-in-Ok-false-clause-err g c =
     let all = all_is held left left_after (c.hold.ensures.still ∙ ap (λ (window : Held). still window left) c.requires) in
     let ended = c.in-Ok-false.ensures.ended (ap Ok c.in-Ok-false.field-0-test) in
     header_cut held left left_after all ended.0 ended.1
+
+pub returns-in-Ok-true-clause-took : goal.returns-in-Ok-true-clause-took
+returns-in-Ok-true-clause-took g c =
+    let held = c.hold.new.self in
+    let left = (g.D.Desk.told c.args.desk.now).left inputs.Capture in
+    let left_after = (g.D.Desk.told c.hold.new.desk).left inputs.Capture in
+    let whole = c.in-Ok-true.ensures.held (ap Ok c.in-Ok-true.field-0-test) in
+    IfOk-both c.behind_header.result _ _ _ (λ source is begin.
+    opened c.args.window held source left left_after c.hold.ensures.took (ap (λ (window : Held). window.bytes) c.requires) whole is.0 is.1 begin.0 begin.1)
+    c.behind_header.ensures.behind c.behind_header.ensures.begin
+
+pub returns-in-Ok-true-clause-first : goal.returns-in-Ok-true-clause-first
+returns-in-Ok-true-clause-first g c =
+    IfErr-weaker c.behind_header.result _ _ (λ stop is. capture_stop_first (g.D.Desk.told c.args.desk.now) (g.D.Desk.told c.hold.new.desk) stop is.1) c.behind_header.ensures.err
+
+pub returns-in-Err-clause-first : goal.returns-in-Err-clause-first
+returns-in-Err-clause-first g c =
+    none_opened c.args.window c.hold.new.self ((g.D.Desk.told c.args.desk.now).left inputs.Capture) ((g.D.Desk.told c.hold.new.desk).left inputs.Capture) c.hold.ensures.took
+    (ap (λ (window : Held). window.bytes) c.requires) c.in-Err.ensures.short

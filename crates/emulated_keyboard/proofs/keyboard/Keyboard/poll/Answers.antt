@@ -3,7 +3,7 @@ use Rattle.std.proofs.Common.{◌≡◌, true, false, List, Bool, ◌∷◌, sym
 use Rattle.input_latch.specs.KeyHistory.{KeyEntry, next_change}
 use Rattle.input_latch.specs.KeyLatchStands.{KeyLatchStands}
 use Rattle.emulated_keyboard.specs.declared.given.Given.{Given}
-use Rattle.emulated_keyboard.specs.KeyboardHistory.{KeyboardEntry, Polled, shown, last_made, made_by, is_open, is_due, is_entered, toggle_of, given_next, given_at, answer_of}
+use Rattle.emulated_keyboard.specs.KeyboardHistory.{KeyboardEntry, Polled, shown, last_made, made_by, is_unread, is_due, is_entered, toggle_of, given_next, given_at, answer_of}
 use Rattle.emulated_keyboard.specs.KeyboardStands.{KeyboardStands}
 use Rattle.emulated_keyboard.specs.KeyboardSteps.{made_keys}
 use Rattle.emulated_keyboard.proofs.KeyboardLaws.{shows_span, not_due, left_where_due, case_of-is, same_made, stands_polled}
@@ -17,7 +17,7 @@ module _ (c : goal.After-give) (past : List KeyboardEntry) (keys : List KeyEntry
   entered = sym stands.entered ∙ c.requires
 
   ready : shows_span c.case_at-given.result ≡ true → is_due past ≡ false
-  ready shows = not_due (is_open past) (is_due past) (given_next (next_change keys) c.args.tick past) (ap (λ (g : Given). shows_span g) (sym case) ∙ shows)
+  ready shows = not_due (is_unread past) (is_due past) (given_next (next_change keys) c.args.tick past) (ap (λ (g : Given). shows_span g) (sym case) ∙ shows)
 
   polled : KeyboardStands c.give.new.self (Polled c.args.tick c.case_at-given.result c.args.acked ∷ past)
   polled =

@@ -1,7 +1,7 @@
 -- The first of two cases that applies is answered.
 use Rattle.std.proofs.Common.{ℕ, ◌∷◌, sym, ap, ◌∙◌, subst}
 use Rattle.emulated_keyboard.specs.declared.given.Given.{Given}
-use Rattle.emulated_keyboard.specs.KeyboardHistory.{PolledApart, is_open, is_due}
+use Rattle.emulated_keyboard.specs.KeyboardHistory.{PolledApart, is_unread, is_due}
 use Rattle.emulated_keyboard.specs.KeyboardStands.{KeyboardValue, KeyboardStands}
 use Rattle.emulated_keyboard.specs.KeyboardSteps.{given_step}
 use Rattle.emulated_keyboard.proofs.KeyboardLaws.{shows_span, not_shown, case_apart-is, stands_polled_apart}
@@ -17,4 +17,4 @@ returns-clause-stands c = λ past stands.
     subst (λ (g : Given). KeyboardStands c.give.new.self (PolledApart g c.args.acked ∷ past)) case
     (subst (λ (v : KeyboardValue). KeyboardStands v (PolledApart c.case_apart-given.result c.args.acked ∷ past)) (sym step)
     (stands_polled_apart c.args.self.now past stands given c.args.acked (sym stands.entered ∙ c.requires)
-    (ap (λ (g : Given). shows_span g) case ∙ not_shown (is_open past) (is_due past))))
+    (ap (λ (g : Given). shows_span g) case ∙ not_shown (is_unread past) (is_due past))))

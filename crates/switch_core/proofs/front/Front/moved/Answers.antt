@@ -1,25 +1,50 @@
 -- A move at the panel is told to both parts.
-use Rattle.std.proofs.Common.{Bool, ap, ◌∙◌}
+use Rattle.std.proofs.Common.{◌≡◌, Bool, ◌++◌, ap, sym, subst, ◌∙◌}
 use Rattle.fail_secure.specs.declared.health.Health.{Health}
 use Rattle.fail_secure.specs.Health.{health_after}
 use Rattle.fail_secure.specs.HealthChange.{change_of}
-use Rattle.switch_core.specs.Chosen.{reports_in, selection_moments, with_report}
-use Rattle.switch_core.proofs.Fronts.{are_buttons_up-selection}
+use Rattle.switch_core.specs.FrontHealth.{reports_in, with_report}
+use Rattle.switch_core.specs.Chosen.{moments_in}
+use Rattle.switch_core.proofs.Fronts.{are_buttons_up-moves}
+use Rattle.psd_base.specs.declared.console.Plug.TheVariants.{Keyboard, Mouse}
+use Rattle.fail_secure.specs.declared.health_change.HealthChange.{HealthChange}
+use Rattle.switch_core.specs.Notes.{change_notes}
+use Rattle.switch_core.specs.Peripherals.{change_moment, peripheral_notes, peripheral_orders, plug_history, plug_orders, with_moment}
+use Rattle.switch_core.specs.PeripheralsStand.{PeripheralsStand}
+use Rattle.switch_core.specs.declared.peripherals.Peripherals.{Peripherals}
+use Rattle.switch_core.proofs.Plugs.{change_notes-none}
 use Rattle.switch_core.proofs.front.Front.moved.Goals as goal
 
-pub returns-clause-stands : goal.returns-clause-stands
-returns-clause-stands c = λ past stands.
-    let up = c.buttons_up.ensures (selection_moments past) stands.selector ∙ are_buttons_up-selection past in
-    record {
-      health = c.health_moved-after.ensures.health (reports_in past) stands.health
-          ∙ ap (λ (b : Bool). health_after (with_report c.args.panel.now b (reports_in past))) up;
-      selector = c.panel.ensures (selection_moments past) stands.selector;
-    }
-
 pub returns-clause-change : goal.returns-clause-change
-returns-clause-change c = λ past stands.
-    let up = c.buttons_up.ensures (selection_moments past) stands.selector ∙ are_buttons_up-selection past in
+returns-clause-change c = λ rules past stands.
+    let up = c.buttons_up.ensures (moments_in rules past) stands.selector ∙ are_buttons_up-moves rules past in
     let after = c.health_moved-after.ensures.health (reports_in past) stands.health
     ∙ ap (λ (b : Bool). health_after (with_report c.args.panel.now b (reports_in past))) up in
     c.change_between-change.ensures ∙ ap (λ (before : Health). change_of before c.health_moved-after.result) stands.health
     ∙ ap (change_of (health_after (reports_in past))) after
+
+pub returns-clause-stands : goal.returns-clause-stands
+returns-clause-stands c = λ rules past stands.
+    let up = c.buttons_up.ensures (moments_in rules past) stands.selector ∙ are_buttons_up-moves rules past in
+    let inside = subst (λ (p : Peripherals). PeripheralsStand rules p (plug_history Keyboard past) (plug_history Mouse past)) (sym c.deref_mut.ensures.value) stands.peripherals in
+    record {
+      rules_are = stands.rules_are;
+      health = c.health_moved-after.ensures.health (reports_in past) stands.health
+          ∙ ap (λ (b : Bool). health_after (with_report c.args.panel.now b (reports_in past))) up;
+      selector = c.panel.ensures (moments_in rules past) stands.selector;
+      peripherals = subst (λ (to : HealthChange). PeripheralsStand rules c.change.new.self (with_moment (change_moment c.args.tick to) (plug_history Keyboard past)) (with_moment (change_moment c.args.tick to) (plug_history Mouse past)))
+          (returns-clause-change c rules past stands) (c.change.ensures.stands rules _ _ inside);
+    }
+
+pub returns-clause-orders : goal.returns-clause-orders
+unfolding peripheral_orders
+returns-clause-orders c = λ rules past stands.
+    let inside = subst (λ (p : Peripherals). PeripheralsStand rules p (plug_history Keyboard past) (plug_history Mouse past)) (sym c.deref_mut.ensures.value) stands.peripherals in
+    subst (λ (to : HealthChange). c.change.new.orders.items ≡ plug_orders Keyboard rules (change_moment c.args.tick to) (plug_history Keyboard past) ++ plug_orders Mouse rules (change_moment c.args.tick to) (plug_history Mouse past))
+    (returns-clause-change c rules past stands) (c.change.ensures.orders rules _ _ inside)
+
+pub returns-clause-notes : goal.returns-clause-notes
+unfolding peripheral_notes
+returns-clause-notes c = λ rules past stands.
+    rw (change_notes-none, change_notes-none)
+    (c.note_change.ensures ∙ ap (change_notes c.args.panel.now) (returns-clause-change c rules past stands))

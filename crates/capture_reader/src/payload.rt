@@ -1,0 +1,234 @@
+//! The payloads of a capture's records.
+ghost use Rattle.std.specs.Prelude.{◌≡◌, ℕ, ◌+◌, ◌≤◌, length, drop, IsTrue, OnOk, OnErr, IfOk, IfErr, IfSome, IsOkAnd, IsSomeAnd, Some, Ok, Err, false};
+ghost use Rattle.capture_reader.specs.Ahead.{ahead_of, kept_happening};
+ghost use Rattle.capture_reader.specs.Capture.{has_fit_length, kind_in, act_of, doing_of, happening_in};
+ghost use Rattle.capture_reader.specs.Source.{IsFormWithin};
+ghost use Rattle.capture_reader.specs.Taken.{moves_panel};
+ghost use Rattle.psd_base.specs.Event.{AtFront, HappensWithin};
+
+use crate::ahead::{Ahead, Kept};
+use crate::form::{ActKind, Form, Kind, PlugKind};
+use arrayvec::ArrayVec;
+use psd_base::{
+    Act, BLOCK_SIZE, CaptureFault, PACKET_SIZE, Packet, Plug, PortId, Setup, Side, Tick,
+};
+
+/// Puts the record of this form and tick into its place. A record in its place costs fewer copies than one that is
+/// handed on.
+#[tactic(auto, unfolding(crate::specs::Capture::happening_in))]
+pub fn read_record(
+    tick: Tick,
+    form: Form,
+    payload: &[u8],
+    into: &mut Ahead,
+) -> Result<(), CaptureFault>
+    requires { IsTrue (has_fit_length (kind_in form) (length payload.now)) }
+    ensures ok { OnOk result (IsSomeAnd (ahead_of into.new) (λ event. (event.tick ≡ tick)
+        × (happening_in form payload.now ≡ Ok event.happening))) }
+    ensures err { IfErr result (λ why. happening_in form payload.now ≡ Err why) }
+    ensures same { OnErr result (into.new ≡ into.old) }
+    ensures within { (ports : ℕ) → IsFormWithin ports form → OnOk result (IfSome (ahead_of into.new)
+        (λ event. HappensWithin ports event.happening)) }
+    ensures capture { OnOk result (IfSome (ahead_of into.new)
+        (λ event. moves_panel event.happening ≡ false)) }
+{
+    match form {
+        Form::Clock => into.kept = Some(Kept::Clock),
+        Form::Act(port, side, kind) => read_act(port, side, kind, payload, into)?,
+        Form::Plug(plug, kind) => read_doing(plug, kind, payload, into)?,
+    }
+    into.tick = tick;
+    Ok(())
+}
+
+/// Puts an act of a host into its place, by the payload of such a record.
+#[tactic(auto, unfolding(crate::specs::Capture::has_fit_length))]
+fn read_act(
+    port: PortId,
+    side: Side,
+    kind: ActKind,
+    payload: &[u8],
+    into: &mut Ahead,
+) -> Result<(), CaptureFault>
+    requires { IsTrue (has_fit_length (Kind.Act kind) (length payload.now)) }
+    ensures ok { OnOk result (IsOkAnd (act_of kind payload.now)
+        (λ act. into.new ≡ record into.old { kept = Some (Kept.Port port side act) })) }
+    ensures err { IfErr result (λ why. act_of kind payload.now ≡ Err why) }
+    ensures same { OnErr result (into.new ≡ into.old) }
+{
+    match kind {
+        ActKind::Reset => read_reset(port, side, payload, into),
+        ActKind::Setup => read_setup(port, side, payload, into),
+        ActKind::Out => read_out(port, side, payload, into),
+        ActKind::In => read_in(port, side, payload, into),
+    }
+}
+
+#[tactic(auto, unfolding(crate::specs::Capture::act_of))]
+fn read_reset(
+    port: PortId,
+    side: Side,
+    payload: &[u8],
+    into: &mut Ahead,
+) -> Result<(), CaptureFault>
+    requires { length payload.now ≡ 0 }
+    ensures ok { OnOk result (IsOkAnd (act_of ActKind.Reset payload.now)
+        (λ act. into.new ≡ record into.old { kept = Some (Kept.Port port side act) })) }
+    ensures err { IfErr result (λ why. act_of ActKind.Reset payload.now ≡ Err why) }
+    ensures same { OnErr result (into.new ≡ into.old) }
+{
+    into.kept = Some(Kept::Port(port, side, Act::Reset));
+    Ok(())
+}
+
+#[tactic(auto, unfolding(crate::specs::Capture::act_of))]
+fn read_setup(
+    port: PortId,
+    side: Side,
+    payload: &[u8],
+    into: &mut Ahead,
+) -> Result<(), CaptureFault>
+    requires { length payload.now ≡ 9 }
+    ensures ok { OnOk result (IsOkAnd (act_of ActKind.Setup payload.now)
+        (λ act. into.new ≡ record into.old { kept = Some (Kept.Port port side act) })) }
+    ensures err { IfErr result (λ why. act_of ActKind.Setup payload.now ≡ Err why) }
+    ensures same { OnErr result (into.new ≡ into.old) }
+{
+    let address = payload[0];
+    if address > 127 {
+        return Err(CaptureFault::BadField);
+    }
+    let setup = Setup::read(&[
+        payload[1], payload[2], payload[3], payload[4], payload[5], payload[6], payload[7],
+        payload[8],
+    ]);
+    into.kept = Some(Kept::Port(port, side, Act::Setup { address, setup }));
+    Ok(())
+}
+
+#[tactic(auto, unfolding(crate::specs::Capture::act_of))]
+fn read_out(port: PortId, side: Side, payload: &[u8], into: &mut Ahead) -> Result<(), CaptureFault>
+    requires at_least { 3 ≤ length payload.now }
+    requires at_most { length payload.now ≤ 67 }
+    ensures ok { OnOk result (IsOkAnd (act_of ActKind.Out payload.now)
+        (λ act. into.new ≡ record into.old { kept = Some (Kept.Port port side act) })) }
+    ensures err { IfErr result (λ why. act_of ActKind.Out payload.now ≡ Err why) }
+    ensures same { OnErr result (into.new ≡ into.old) }
+{
+    let (address, endpoint, toggle) = (payload[0], payload[1], payload[2]);
+    if address > 127 || endpoint > 15 || toggle > 1 {
+        return Err(CaptureFault::BadField);
+    }
+    into.kept = Some(Kept::Port(
+        port,
+        side,
+        Act::Out {
+            address,
+            endpoint,
+            toggle: toggle == 1,
+            bytes: Packet::from_slice(&payload[3..]),
+        },
+    ));
+    Ok(())
+}
+
+#[tactic(auto, unfolding(crate::specs::Capture::act_of))]
+fn read_in(port: PortId, side: Side, payload: &[u8], into: &mut Ahead) -> Result<(), CaptureFault>
+    requires { length payload.now ≡ 3 }
+    ensures ok { OnOk result (IsOkAnd (act_of ActKind.In payload.now)
+        (λ act. into.new ≡ record into.old { kept = Some (Kept.Port port side act) })) }
+    ensures err { IfErr result (λ why. act_of ActKind.In payload.now ≡ Err why) }
+    ensures same { OnErr result (into.new ≡ into.old) }
+{
+    let (address, endpoint, acked) = (payload[0], payload[1], payload[2]);
+    if address > 127 || endpoint > 15 || acked > 1 {
+        return Err(CaptureFault::BadField);
+    }
+    into.kept = Some(Kept::Port(
+        port,
+        side,
+        Act::In {
+            address,
+            endpoint,
+            acked: acked == 1,
+        },
+    ));
+    Ok(())
+}
+
+/// Puts what happens at a plug into its place, by the payload of such a record.
+#[tactic(auto, unfolding(crate::specs::Capture::has_fit_length, crate::specs::Capture::doing_of))]
+fn read_doing(
+    plug: Plug,
+    kind: PlugKind,
+    payload: &[u8],
+    into: &mut Ahead,
+) -> Result<(), CaptureFault>
+    requires { IsTrue (has_fit_length (Kind.Plug kind) (length payload.now)) }
+    ensures ok { OnOk result (IsOkAnd (doing_of kind plug payload.now) (λ doing.
+        IsSomeAnd into.new.kept (λ kept. kept_happening into.new.bytes.items kept ≡ AtFront doing))) }
+    ensures err { IfErr result (λ why. doing_of kind plug payload.now ≡ Err why) }
+    ensures same { OnErr result (into.new ≡ into.old) }
+{
+    match kind {
+        PlugKind::Attach => {
+            into.kept = Some(Kept::Attach(plug));
+            Ok(())
+        }
+        PlugKind::Detach => {
+            into.kept = Some(Kept::Detach(plug));
+            Ok(())
+        }
+        PlugKind::Reply => read_reply(plug, payload, into),
+        PlugKind::Report => {
+            read_report(plug, payload, into);
+            Ok(())
+        }
+    }
+}
+
+#[tactic(auto, unfolding(crate::specs::Capture::doing_of))]
+fn read_reply(plug: Plug, payload: &[u8], into: &mut Ahead) -> Result<(), CaptureFault>
+    requires at_least { 9 ≤ length payload.now }
+    requires at_most { length payload.now ≤ 9 + BLOCK_SIZE }
+    ensures ok { OnOk result (IsOkAnd (doing_of PlugKind.Reply plug payload.now) (λ doing.
+        IsSomeAnd into.new.kept (λ kept. kept_happening into.new.bytes.items kept ≡ AtFront doing))) }
+    ensures err { IfErr result (λ why. doing_of PlugKind.Reply plug payload.now ≡ Err why) }
+    ensures same { OnErr result (into.new ≡ into.old) }
+{
+    let status = payload[8];
+    if status > 3 {
+        return Err(CaptureFault::BadField);
+    }
+    into.kept = Some(Kept::Reply {
+        plug,
+        life: u32::from_le_bytes([payload[0], payload[1], payload[2], payload[3]]),
+        number: u32::from_le_bytes([payload[4], payload[5], payload[6], payload[7]]),
+        status,
+    });
+    keep_bytes(&payload[9..], &mut into.bytes);
+    Ok(())
+}
+
+#[tactic(auto, unfolding(crate::specs::Capture::doing_of))]
+fn read_report(plug: Plug, payload: &[u8], into: &mut Ahead)
+    requires at_least { 1 ≤ length payload.now }
+    requires at_most { length payload.now ≤ 1 + PACKET_SIZE }
+    ensures { IsOkAnd (doing_of PlugKind.Report plug payload.now) (λ doing.
+        IsSomeAnd into.new.kept (λ kept. kept_happening into.new.bytes.items kept ≡ AtFront doing)) }
+{
+    into.kept = Some(Kept::Report {
+        plug,
+        interface: payload[0],
+    });
+    keep_bytes(&payload[1..], &mut into.bytes);
+}
+
+/// Writes these bytes over those that were kept.
+fn keep_bytes(bytes: &[u8], into: &mut ArrayVec<u8, BLOCK_SIZE>)
+    requires { length bytes.now ≤ BLOCK_SIZE }
+    ensures { into.new.items ≡ bytes.now }
+{
+    into.clear();
+    let _ = into.try_extend_from_slice(bytes);
+}

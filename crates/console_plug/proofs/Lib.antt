@@ -1,0 +1,3 @@
+pub mod Powering
+pub mod Snapshots
+pub mod Naming

@@ -1,0 +1,10 @@
+pub mod ClassRequests
+pub mod Delivery
+pub mod Descriptors
+pub mod HostReading
+pub mod LatchCalls
+pub mod Motion
+pub mod MouseHistory
+pub mod MouseStands
+pub mod MouseSteps
+pub mod Report

@@ -1,0 +1,23 @@
+-- A peripheral is attached.
+use Rattle.std.proofs.Common.{sym, subst}
+use Rattle.psd_base.specs.declared.console.Plug.TheVariants.{Keyboard, Mouse}
+use Rattle.switch_core.specs.Peripherals.{peripheral_orders, plug_history}
+use Rattle.switch_core.specs.PeripheralsStand.{PeripheralsStand}
+use Rattle.switch_core.specs.declared.peripherals.Peripherals.{Peripherals}
+use Rattle.switch_core.proofs.front.Front.attach.Goals as goal
+
+pub returns-clause-stands : goal.returns-clause-stands
+returns-clause-stands c = λ rules past g.
+    let inside = subst (λ (p : Peripherals). PeripheralsStand rules p (plug_history Keyboard past) (plug_history Mouse past)) (sym c.deref_mut.ensures.value) g.peripherals in
+    record {
+      rules_are = g.rules_are;
+      health = g.health;
+      selector = g.selector;
+      peripherals = c.attach.ensures.stands rules _ _ inside;
+    }
+
+pub returns-clause-orders : goal.returns-clause-orders
+unfolding peripheral_orders
+returns-clause-orders c = λ rules past g.
+    let inside = subst (λ (p : Peripherals). PeripheralsStand rules p (plug_history Keyboard past) (plug_history Mouse past)) (sym c.deref_mut.ensures.value) g.peripherals in
+    c.attach.ensures.orders rules _ _ inside
