@@ -32,7 +32,7 @@ pathlib.Path("console.txt").write_text(f"1 KEYBOARD ON {TOLD}\\n")
 print("events 0")
 """
 # the session's capture has more bytes, and the one without port 2's acts has fewer
-ACTS = "int(len(data) > 900)"
+ACTS = "int(len(data) > 1700)"
 HONEST, LEAKING, TELLING = (STAND_IN.replace("LEAK", leak).replace("TOLD", told) for leak, told in (("1", "1"), (ACTS, "1"), ("1", ACTS)))
 
 
@@ -112,6 +112,8 @@ def check_shown(top, real):
         expect(acts[0] > 0 and acts[1:] == [0, 10_000], f"port 2 did {acts} acts")
         expect((folder / "session" / "port1.txt").stat().st_size > 1000, "port 1 was answered nothing")
         expect("KEYBOARD ASK" in (folder / "session" / "console.txt").read_text(), "the keyboard was asked nothing")
+        for name, pressed in (("port1.txt", "344 KM IN 5 1 1 -> DATA 0 0200000000000000\n"), ("port2.txt", "718 KM IN 3 1 1 -> DATA 0 0000120000000000\n")):
+            expect(pressed in (folder / "session" / name).read_text(), f"{name} has no key that was typed")
 
 
 def check_leak(top, told):

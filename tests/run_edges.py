@@ -7,6 +7,7 @@ With each combination of standard streams closed, the program replays a session 
 may hold a byte that belongs to a stream, and the status tells what couldn't be written. With memory in steps, a replay
 ends with status 0 and the whole of what it writes, or with 8, the line `out of memory` and no file touched, wherever there
 was enough to begin at all. Links, FIFOs, folders, full disks, limits of files and signals do what docs/FORMATS.md says of them.
+Calls that a signal interrupts are tried again; strace plays the signal, and where it isn't there, that is said and not tried.
 The last line is 'N passed, N failed'.
 """
 import contextlib
@@ -35,6 +36,10 @@ STEP, MOST = 64 * KIBIBYTE, 64 * 1024 * KIBIBYTE
 
 
 class Wrong(Exception):
+    pass
+
+
+class Skipped(Exception):
     pass
 
 
@@ -219,9 +224,50 @@ def check_signals(program, folder):
         same("what it writes", written(folder), {})
 
 
+#: The files that a replay reads, each as a fault line names it, and those that a replay of the session writes.
+READ = {"rules.toml": b"rules", "capture.kvc": b"capture", "buttons.txt": b"script"}
+WRITTEN = ("port1.txt", "port2.txt", "console.txt", "rules.log")
+#: The calls that a signal may interrupt, each with files at which it is made.
+INTERRUPTED = {"read": tuple(READ), "write": ("port1.txt", "rules.log"), "openat": (*READ, *WRITTEN)}
+
+
+def see_strace():
+    strace = shutil.which("strace")
+    if strace is None:
+        raise Skipped("strace isn't there")
+    if subprocess.run([strace, "--quiet=all", "-o", "/dev/null", "true"], capture_output=True, timeout=SECONDS).returncode:
+        raise Skipped("strace may not trace here")
+    return strace
+
+
+def replay_failing(strace, program, folder, call, name, error):
+    """A replay where the first, the third and so on of these calls at a file fail so: how it ends, and how many failed."""
+    with tempfile.TemporaryDirectory(prefix="edge-") as other:
+        trace = pathlib.Path(other) / "trace"
+        done = subprocess.run([strace, "--quiet=all", "-o", trace, "-P", name, "-e", f"trace={call}",
+                               "-e", f"inject={call}:error={error}:when=1+2", program, "replay"],
+                              cwd=folder, stdin=subprocess.DEVNULL, capture_output=True, timeout=SECONDS)
+        return (done.returncode, done.stdout, done.stderr), trace.read_text().count("(INJECTED)")
+
+
+def check_interrupted(program, folder):
+    """Calls that a signal interrupts are tried again. Where a read fails otherwise at the same places, that is a read fault."""
+    strace = see_strace()
+    (folder / "rules.toml").write_bytes(b"[[deny]]\nvendor = 4660\n")
+    for call, names in INTERRUPTED.items():
+        for name in names:
+            ended, count = replay_failing(strace, program, folder, call, name, "EINTR")
+            same(f"the run with {call} interrupted at {name}", ended, (0, expected("report"), b""))
+            same("what it writes", {it: (folder / it).read_bytes() for it in WRITTEN}, outlets())
+            same(f"that {call} was interrupted at {name}", count > 0, True)
+    for name, told in READ.items():
+        ended, count = replay_failing(strace, program, folder, "read", name, "EIO")
+        same(f"the run with a failed read of {name}", (ended, count), ((READ_FAULT, b"", b"read fault " + told + b"\n"), 1))
+
+
 #: What the system decides, each case in a folder with the session's inputs.
 DECIDED = {"a limit of files": check_file_limit, "links": check_links, "a full disk": check_full_disk, "folders": check_folders,
-           "a FIFO": check_fifo, "signals": check_signals}
+           "a FIFO": check_fifo, "signals": check_signals, "interrupted calls": check_interrupted}
 
 
 def check_decided(program, check):
@@ -239,14 +285,17 @@ def main():
     cases = [(" and ".join(STREAMS[it] for it in c) + " closed", lambda c=c: check_closed(program, c)) for c in combinations]
     cases.append(("memory in steps", lambda: check_memory(program)))
     cases += [(name, lambda check=check: check_decided(program, check)) for name, check in DECIDED.items()]
-    passed = 0
+    passed, skipped = 0, 0
     for name, case in cases:
         try:
             case()
             passed += 1
+        except Skipped as why:
+            skipped += 1
+            print(f"{name}: skipped, since {why}")
         except (Wrong, OSError, subprocess.TimeoutExpired) as error:
             print(f"{name}: {error}")
-    failed = len(cases) - passed
+    failed = len(cases) - passed - skipped
     print(f"{passed} passed, {failed} failed")
     return 0 if passed and not failed else 1
 

@@ -313,7 +313,7 @@ def try_a_reader_may_go_away():
 
 
 def try_the_documented_session_types_a_key():
-    """The session of docs/FORMATS.md, made by words and replayed: the keyboard is accepted. Its keys reach no computer yet."""
+    """The session of docs/FORMATS.md, made by words and replayed: the keyboard is accepted, and the selected computer reads its keys."""
     session = "\n".join(example_after("docs/FORMATS.md", "### Common things from one word")[0])
     with room() as folder:
         (folder / "examples").symlink_to(DEVICES.parent)
@@ -322,5 +322,5 @@ def try_the_documented_session_types_a_key():
         ran = run([program(), "replay"], cwd=folder)
         same("the replay", (ran.status, ran.err), (0, ""))
         has("the log", (folder / "rules.log").read_text(), "0 KEYBOARD ACCEPTED\n110 SELECT 1\n")
-        same("the poll", (folder / "port1.txt").read_text().splitlines()[-1], "141 KM IN 0 1 1 -> NAK")
+        same("the poll", (folder / "port1.txt").read_text().splitlines()[-1], "141 KM IN 0 1 1 -> DATA 0 0200000000000000")
         same("the other computer", (folder / "port2.txt").read_text(), "")

@@ -7,5 +7,7 @@ pub mod LiveActs
 pub mod LiveDone
 pub mod LiveSteps
 pub mod Pasts
+pub mod Sessions
 pub mod Settles
 mod SlotExamples
+mod StageExamples

@@ -93,3 +93,40 @@ power_after_a_detach = refl
 -- a routing of an earlier life is forgotten
 not_routed_anew : state_after (Check ∷ Clock 1250 ∷ left) ≡ state.Checked
 not_routed_anew = refl
+
+-- left at the tick at which power came on: it rests from that tick
+off_at_the_same_tick : goes_off (Leave 1250) (Clock 1250 ∷ left) ≡ true
+off_at_the_same_tick = refl
+
+rests_from_there : comes_on (Clock 2249) (Leave 1250 ∷ Clock 1250 ∷ left) ≡ false
+rests_from_there = refl
+
+and_no_longer : comes_on (Clock 2250) (Leave 1250 ∷ Clock 1250 ∷ left) ≡ true
+and_no_longer = refl
+
+-- where no token is attached nothing goes off
+nothing_to_detach : goes_off (Detach 5) [] ≡ false
+nothing_to_detach = refl
+
+nothing_to_leave : goes_off (Leave 5) [] ≡ false
+nothing_to_leave = refl
+
+no_power_without_a_token : comes_on (Clock 5000) [] ≡ false
+no_power_without_a_token = refl
+
+-- a refused token has no power to lose, and stays refused where the computer is left
+refused_and_left : goes_off (Leave 30) refused ≡ false
+refused_and_left = refl
+
+barred_when_left : state_after (Leave 30 ∷ refused) ≡ state.Barred (Fixed 4)
+barred_when_left = refl
+
+refused_and_detached : goes_off (Detach 30) refused ≡ false
+refused_and_detached = refl
+
+-- a routed token keeps its power while time passes
+routed_for_long : state_after (Clock 9000 ∷ Route 1 ∷ Check ∷ Attach ∷ []) ≡ state.Routed 1
+routed_for_long = refl
+
+still_the_first_life : lives (Attach ∷ Detach 300 ∷ left) ≡ 1
+still_the_first_life = refl

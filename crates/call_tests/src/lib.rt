@@ -6,6 +6,8 @@ mod captures;
 #[cfg(test)]
 mod configurations;
 #[cfg(test)]
+mod connectors;
+#[cfg(test)]
 mod control_transfers;
 #[cfg(test)]
 mod desks;

@@ -1,5 +1,5 @@
 -- What reading does to the bytes that are still to come.
-use Rattle.std.proofs.Common.{◌≡◌, ℕ, ◌+◌, ◌-◌, Bool, true, false, nat_eq, List, [], ◌++◌, take, Option, Some, None, option_map, IfSome, slice_range, refl, sym, ap, ◌∙◌, subst, arith, append_assoc, append-nil}
+use Rattle.std.proofs.Common.{◌≡◌, ℕ, ◌+◌, ◌-◌, Bool, true, false, nat_eq, List, [], ◌∷◌, ◌++◌, take, Option, Some, None, option_map, IfSome, slice_range, refl, sym, ap, ◌∙◌, subst, arith, append_assoc, append-nil}
 use Rattle.std.proofs.lemmas.Bool.Decides.{nat_tests}
 use Rattle.capture_reader.specs.Window.{coming, still}
 use Rattle.capture_reader.proofs.Slices.{take_in_two}
@@ -32,3 +32,15 @@ pub all_read : (items bytes : List ℕ) (held count : ℕ) → take held items �
 all_read items bytes held count kept =
     let size : (held + count) - 0 ≡ held + count = omega arith in
     ap (λ n. take n items) size ∙ take_in_two items held count ∙ ap (λ xs. xs ++ slice_range items held (held + count)) kept
+
+second_is_empty : (xs ys : List ℕ) → xs ++ ys ≡ [] → ys ≡ []
+second_is_empty [] ys none = none
+second_is_empty (x ∷ xs) ys none = absurd (cc)
+
+-- a read that met the end leaves nothing
+pub end_after_read : (items : List ℕ) (held count : ℕ) (before after : Option (List ℕ)) → before ≡ option_map (λ rest. slice_range items held (held + count) ++ rest) after
+    → (count ≡ 0 → IfSome before (λ rest. rest ≡ [])) → nat_eq count 0 ≡ true → IfSome after (λ rest. rest ≡ [])
+end_after_read items held count before None moved ended met = tt
+end_after_read items held count before (Some rest) moved ended met =
+    let empty : count ≡ 0 = grind (arith, nat_tests) in
+    second_is_empty (slice_range items held (held + count)) rest (subst (λ (left : Option (List ℕ)). IfSome left (λ xs. xs ≡ [])) moved (ended empty))

@@ -1,5 +1,6 @@
 pub mod Counting
 pub mod DeskReads
+pub mod Ends
 pub mod Examples
 pub mod FirstLook
 pub mod FirstTaken

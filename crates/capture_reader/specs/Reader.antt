@@ -13,7 +13,7 @@ use Rattle.capture_reader.specs.Merge.{merge, both, cut_to}
 use Rattle.capture_reader.specs.Script.{lines}
 use Rattle.capture_reader.specs.Source.{after_ahead}
 use Rattle.capture_reader.specs.Taken.{waiting, given_from, whole_lines, Took}
-use Rattle.capture_reader.specs.Window.{Held, coming}
+use Rattle.capture_reader.specs.Window.{EndIsTrue, Held, coming}
 
 -- how far a source was read
 pub record Following : Type 0 where
@@ -81,6 +81,11 @@ pub record IsAtEnd (reading : Reading) : Type 0 where
   pub no_record : reading.capture.ahead ≡ None
   pub no_line : reading.script.ahead ≡ None
   pub no_stop : reading.stopped ≡ None
+
+-- an end that was met is one: nothing is left of that source, where the desk tells
+pub record EndsAreTrue (reading : Reading) (told : Told) : Type 0 where
+  pub capture : EndIsTrue reading.capture.held (told.left inputs.Capture)
+  pub script : EndIsTrue reading.script.held (told.left inputs.Script)
 
 -- how many whole records, and how many whole lines, wait or are in the bytes that were taken and not read, and these further ones
 

@@ -1,5 +1,5 @@
 -- The bytes of an input that are taken and not used up.
-use Rattle.std.specs.Prelude.{◌≡◌, ℕ, ◌+◌, ◌≤◌, Bool, true, false, List, ◌++◌, length, take, Option, Some, None, option_map, position, if◌then◌else◌}
+use Rattle.std.specs.Prelude.{◌≡◌, ℕ, ◌+◌, ◌≤◌, Bool, true, false, List, [], ◌++◌, length, take, Option, Some, None, option_map, IfSome, position, if◌then◌else◌}
 use Rattle.capture_reader.specs.declared.line.TheConstants.{LINE_MAX}
 use Rattle.capture_reader.specs.Script.{is_line_feed, first_line}
 
@@ -15,6 +15,10 @@ coming held left = if held.ended then held.bytes else held.bytes ++ left
 -- the same, where the desk may not tell
 unfoldable pub still : Held → Option (List ℕ) → Option (List ℕ)
 still held left = option_map (coming held) left
+
+-- an end that was met is one: where the desk tells, nothing is left
+abbrev pub EndIsTrue : Held → Option (List ℕ) → Type 0
+EndIsTrue held left = held.ended ≡ true → IfSome left (λ rest. rest ≡ [])
 
 -- the first begins the second
 abbrev pub Begins : List ℕ → List ℕ → Type 0

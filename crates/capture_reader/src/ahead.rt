@@ -47,6 +47,7 @@ impl Ahead {
     }
 
     /// The event of the record, which borrows what is long.
+    #[inline(always)]
     pub fn event(&self) -> Event<'_>
         requires { IsSome (ahead_of self.now) }
         ensures { Some (seen result) ≡ ahead_of self.now }
@@ -62,6 +63,7 @@ impl Ahead {
 }
 
 /// What a record says, with these bytes of a reply or of a report.
+#[inline(always)]
 fn lend<'a>(kept: &'a Kept, bytes: &'a [u8]) -> What<'a>
     ensures { happening_of result ≡ kept_happening bytes.now kept.now }
 {

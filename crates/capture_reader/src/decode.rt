@@ -49,6 +49,7 @@ pub fn read_header(bytes: &[u8]) -> Result<u8, Stop>
 }
 
 /// The head of a record at the front of the bytes.
+#[inline(always)]
 pub fn read_head(bytes: &[u8]) -> Head
     requires { HEAD_SIZE ≤ length bytes.now }
     ensures { result ≡ head_of bytes.now }
@@ -63,6 +64,7 @@ pub fn read_head(bytes: &[u8]) -> Head
 
 /// The kind of this number.
 #[tactic(auto, unfolding(crate::specs::Capture::kind_of))]
+#[inline(always)]
 fn read_kind(number: u8) -> Result<Kind, CaptureFault>
     ensures { result ≡ kind_of number }
 {
@@ -82,6 +84,7 @@ fn read_kind(number: u8) -> Result<Kind, CaptureFault>
 
 /// The connector at which an act happens.
 #[tactic(auto, unfolding(crate::specs::Capture::form_of))]
+#[inline(always)]
 fn read_connector(kind: ActKind, ports: u8, who: u8) -> Result<Form, CaptureFault>
     requires { ports ≤ MAX_PORTS }
     ensures value { result ≡ form_of (Kind.Act kind) ports who }
@@ -98,6 +101,7 @@ fn read_connector(kind: ActKind, ports: u8, who: u8) -> Result<Form, CaptureFaul
 }
 
 /// The act at the connector of the port of this number.
+#[inline(always)]
 fn connector(number: u8, side: Side, kind: ActKind) -> Result<Form, CaptureFault>
     requires { IsPort number }
     ensures { result ≡ Ok (Form.Act number side kind) }
@@ -110,6 +114,7 @@ fn connector(number: u8, side: Side, kind: ActKind) -> Result<Form, CaptureFault
 
 /// The plug of which a record speaks: that of the keyboard, or that of the mouse.
 #[tactic(auto, unfolding(crate::specs::Capture::form_of))]
+#[inline(always)]
 fn read_plug(kind: PlugKind, ports: u8, who: u8) -> Result<Form, CaptureFault>
     ensures value { result ≡ form_of (Kind.Plug kind) ports who }
     ensures kind { IfOk result (λ form. kind_in form ≡ Kind.Plug kind) }
@@ -124,6 +129,7 @@ fn read_plug(kind: PlugKind, ports: u8, who: u8) -> Result<Form, CaptureFault>
 
 /// Who acts, for this kind of record.
 #[tactic(auto, unfolding(crate::specs::Capture::form_of))]
+#[inline(always)]
 fn read_form(kind: Kind, ports: u8, who: u8) -> Result<Form, CaptureFault>
     requires { ports ≤ MAX_PORTS }
     ensures value { result ≡ form_of kind ports who }
@@ -145,6 +151,7 @@ fn read_form(kind: Kind, ports: u8, who: u8) -> Result<Form, CaptureFault>
 
 /// Whether a record of this kind can have a payload of this many bytes.
 #[tactic(auto, unfolding(crate::specs::Capture::has_fit_length))]
+#[inline(always)]
 fn fits(kind: Kind, length: u16) -> bool
     ensures value { result ≡ has_fit_length kind length }
     ensures small { IsTrue result → length ≤ PAYLOAD_MAX }
@@ -165,6 +172,7 @@ fn fits(kind: Kind, length: u16) -> bool
 /// What a head announces after a record of tick `last`, or the first of its checks that fails: the tick, the kind,
 /// the acting party, and the length.
 #[tactic(auto, unfolding(crate::specs::Capture::announced))]
+#[inline(always)]
 pub fn announce(ports: u8, last: Tick, head: &Head) -> Result<Form, CaptureFault>
     requires { ports ≤ MAX_PORTS }
     ensures value { result ≡ announced ports last head.now }

@@ -16,6 +16,7 @@ use psd_base::{
 /// Puts the record of this form and tick into its place. A record in its place costs fewer copies than one that is
 /// handed on.
 #[tactic(auto, unfolding(crate::specs::Capture::happening_in))]
+#[inline(always)]
 pub fn read_record(
     tick: Tick,
     form: Form,
@@ -43,6 +44,7 @@ pub fn read_record(
 
 /// Puts an act of a host into its place, by the payload of such a record.
 #[tactic(auto, unfolding(crate::specs::Capture::has_fit_length))]
+#[inline(always)]
 fn read_act(
     port: PortId,
     side: Side,
@@ -65,6 +67,7 @@ fn read_act(
 }
 
 #[tactic(auto, unfolding(crate::specs::Capture::act_of))]
+#[inline(always)]
 fn read_reset(
     port: PortId,
     side: Side,
@@ -82,6 +85,7 @@ fn read_reset(
 }
 
 #[tactic(auto, unfolding(crate::specs::Capture::act_of))]
+#[inline(always)]
 fn read_setup(
     port: PortId,
     side: Side,
@@ -107,6 +111,7 @@ fn read_setup(
 }
 
 #[tactic(auto, unfolding(crate::specs::Capture::act_of))]
+#[inline(always)]
 fn read_out(port: PortId, side: Side, payload: &[u8], into: &mut Ahead) -> Result<(), CaptureFault>
     requires at_least { 3 ≤ length payload.now }
     requires at_most { length payload.now ≤ 67 }
@@ -133,6 +138,7 @@ fn read_out(port: PortId, side: Side, payload: &[u8], into: &mut Ahead) -> Resul
 }
 
 #[tactic(auto, unfolding(crate::specs::Capture::act_of))]
+#[inline(always)]
 fn read_in(port: PortId, side: Side, payload: &[u8], into: &mut Ahead) -> Result<(), CaptureFault>
     requires { length payload.now ≡ 3 }
     ensures ok { OnOk result (IsOkAnd (act_of ActKind.In payload.now)

@@ -46,10 +46,11 @@ impl Progress {
     ghost use Rattle.capture_reader.specs.Ahead.{ahead_of, line_of};
     ghost use Rattle.capture_reader.specs.Lines.{lines_in, lines_later, lines_with_ahead, FailedLineLook};
     ghost use Rattle.capture_reader.specs.Progress.{reading, script_reading, IsOpened, IsUnread, IsLookedAt, IsSound};
-    ghost use Rattle.capture_reader.specs.Reader.{rest, rest_told, records_held, lines_held, TookBoth, GivesNext, IsAtEnd, IsInOrder, IsLooked, IsOver, NewFailed, ShowsOver, StopsBecause};
+    ghost use Rattle.capture_reader.specs.Reader.{rest, rest_told, records_held, lines_held, TookBoth, EndsAreTrue, GivesNext, IsAtEnd, IsInOrder, IsLooked, IsOver, NewFailed, ShowsOver, StopsBecause};
     ghost use Rattle.capture_reader.specs.Merge.{schedule_told, merged, port_count};
     ghost use Rattle.capture_reader.specs.Source.{records_in, records_later, FailedLook};
     ghost use Rattle.capture_reader.specs.Taken.{whole_records, whole_lines, FailsFirst, FailsBehind, LooksAt};
+    ghost use Rattle.capture_reader.specs.Window.{EndIsTrue};
     ghost use Rattle.psd_base.specs.Desk.{NoOutlet, OnlyReads, ReadsSources, Told, Touches};
 
     /// Reads the capture's header, looks at the first line of the script, and then at the first record.
@@ -74,6 +75,7 @@ impl Progress {
             (D.told desk.old) (D.told desk.new)) }
         ensures first { IfErr result (FailsFirst whole_records whole_lines
             (D.told desk.old) (D.told desk.new)) }
+        ensures ends { IfOk result (λ progress. EndsAreTrue (reading progress) (D.told desk.new)) }
         ensures err { IfErr result (NewFailed (schedule_told limit (D.told desk.old))
             (D.told desk.old) (D.told desk.new) ⊥) }
         ensures only { ReadsSources (D.told desk.old) (D.told desk.new) }
@@ -109,6 +111,9 @@ impl Progress {
             (reading progress) (D.told desk.old) (D.told desk.new)) }
         ensures first { IfErr result (FailsFirst (records_in capture) (lines_in script)
             (D.told desk.old) (D.told desk.new)) }
+        ensures ends { EndIsTrue capture.window ((D.told desk.old).left Input.Capture)
+            → EndIsTrue script.window ((D.told desk.old).left Input.Script)
+            → IfOk result (λ progress. EndsAreTrue (reading progress) (D.told desk.new)) }
         ensures err { let before = merged limit (records_later capture (D.told desk.old)) (lines_later script (D.told desk.old)) in
             IfErr result (NewFailed before (D.told desk.old) (D.told desk.new) ⊥) }
         ensures only { ReadsSources (D.told desk.old) (D.told desk.new) }
@@ -142,6 +147,8 @@ impl Progress {
             → let before = merged limit (records_later capture (D.told desk.old)) (lines_with_ahead script left) in
             OnOk result (IsLooked before) }
         ensures script { IfOk result (λ progress. progress.script ≡ script) }
+        ensures ends { EndIsTrue capture.window ((D.told desk.old).left Input.Capture)
+            → IfOk result (λ progress. EndIsTrue progress.capture.window ((D.told desk.new).left Input.Capture)) }
         ensures took { IfOk result (λ progress. TookBoth (records_in capture)
             (lines_held (script_reading State.Waiting script)) (reading progress) (D.told desk.old) (D.told desk.new)) }
         ensures first { (lines : List ℕ → ℕ)
@@ -166,6 +173,7 @@ impl Progress {
     }
 
     /// Goes on to the next event, and answers whether there is one.
+    #[inline(always)]
     pub fn advance<D: Desk>(&mut self, desk: &mut D) -> Result<bool, Stop>
         requires sound { IsSound self.old }
         ensures sound { IsSound self.new }
@@ -182,6 +190,8 @@ impl Progress {
 
         ensures end { result ≡ Ok false → IsAtEnd (reading self.new) × ShowsOver None (reading self.new)
             × IsOver None (rest_told (reading self.old) (D.told desk.old)) }
+        ensures met { result ≡ Ok false → (self.new.capture.window.ended ≡ true)
+            × (self.new.script.window.ended ≡ true) }
         ensures at_end { IsAtEnd (reading self.old) → (result ≡ Ok false) × (self.new ≡ self.old)
             × (desk.new ≡ desk.old) }
 
@@ -210,6 +220,10 @@ impl Progress {
             × ((D.told desk.new).left Input.Script ≡ (D.told desk.old).left Input.Script) }
         ensures unread { self.old.capture.window.ended ≡ true → self.old.script.window.ended ≡ true
             → desk.new ≡ desk.old }
+        ensures capture_end { EndIsTrue self.old.capture.window ((D.told desk.old).left Input.Capture)
+            → EndIsTrue self.new.capture.window ((D.told desk.new).left Input.Capture) }
+        ensures script_end { EndIsTrue self.old.script.window ((D.told desk.old).left Input.Script)
+            → EndIsTrue self.new.script.window ((D.told desk.new).left Input.Script) }
         ensures only { ReadsSources (D.told desk.old) (D.told desk.new) }
     {
         match &self.state {
@@ -227,6 +241,7 @@ impl Progress {
     }
 
     /// Looks behind the record that was given.
+    #[inline(always)]
     fn look_at_record<D: Desk>(&mut self, desk: &mut D) -> Result<(), Stop>
         requires given { self.old.state ≡ State.GivenRecord }
         requires sound { IsSound self.old }
@@ -239,6 +254,8 @@ impl Progress {
             ≡ rest (reading self.old) ((D.told desk.old).left Input.Capture) left }
         ensures unread { self.old.capture.window.ended ≡ true → (self.new.capture.window.ended ≡ true)
             × (desk.new ≡ desk.old) }
+        ensures capture_end { EndIsTrue self.old.capture.window ((D.told desk.old).left Input.Capture)
+            → EndIsTrue self.new.capture.window ((D.told desk.new).left Input.Capture) }
         ensures took { TookBoth (records_held self.old.capture.ports (reading self.old).capture)
             (lines_held (reading self.old).script) (reading self.new) (D.told desk.old) (D.told desk.new) }
         ensures ok { OnOk result (self.new.state ≡ State.Waiting) }
@@ -273,6 +290,8 @@ impl Progress {
             ≡ rest (reading self.old) left ((D.told desk.old).left Input.Script) }
         ensures unread { self.old.script.window.ended ≡ true → (self.new.script.window.ended ≡ true)
             × (desk.new ≡ desk.old) }
+        ensures script_end { EndIsTrue self.old.script.window ((D.told desk.old).left Input.Script)
+            → EndIsTrue self.new.script.window ((D.told desk.new).left Input.Script) }
         ensures took { TookBoth (records_held self.old.capture.ports (reading self.old).capture)
             (lines_held (reading self.old).script) (reading self.new) (D.told desk.old) (D.told desk.new) }
         ensures ok { OnOk result (self.new.state ≡ State.Waiting) }
@@ -295,6 +314,7 @@ impl Progress {
     }
 
     /// Gives the next of the events that were read ahead and not given, and answers whether there is one.
+    #[inline(always)]
     fn give(&mut self) -> Result<bool, Stop>
         requires waiting { self.old.state ≡ State.Waiting }
         requires sound { IsSound self.old }
@@ -312,6 +332,8 @@ impl Progress {
         ensures end { result ≡ Ok false → (self.new ≡ self.old) × (ahead_of self.old.capture.ahead ≡ None)
             × (line_of self.old.script.ahead ≡ None)
             × ShowsOver None (reading self.new) }
+        ensures met { result ≡ Ok false → (self.new.capture.window.ended ≡ true)
+            × (self.new.script.window.ended ≡ true) }
         ensures none { ahead_of self.old.capture.ahead ≡ None → line_of self.old.script.ahead ≡ None
             → (result ≡ Ok false)
             × (self.new ≡ self.old) }
@@ -332,6 +354,7 @@ impl Progress {
     }
 
     /// Counts an event of this tick as given, unless it is one too many.
+    #[inline(always)]
     fn go_on(&mut self, given: State, tick: Tick) -> Result<bool, Stop>
         requires { self.old.served ≤ self.old.limit }
         ensures more { result ≡ Ok true → (self.old.served < self.old.limit)
@@ -351,6 +374,7 @@ impl Progress {
     }
 
     /// The event that was given, which borrows what is long.
+    #[inline(always)]
     pub fn event(&self) -> Event<'_>
         requires given { IsSome (reading self.now).given }
         ensures { Some (seen result) ≡ (reading self.now).given }

@@ -2,7 +2,7 @@
 ghost use Rattle.std.specs.Prelude.{◌≡◌, ◌≢◌, ◌⊎◌, ◌+◌, ◌≤◌, [], true, false, Some, None, Ok, Err};
 ghost use Rattle.std.specs.Prelude.{IsSome, IfOk, IfSome, IfErr, OnOk};
 ghost use Rattle.psd_base.specs.Event.{seen};
-ghost use Rattle.capture_reader.specs.Reader.{rest_told, records_held, lines_held, TookBoth, GivesNext, IsAtEnd, IsOver, ShowsOver, StopsBecause, NewFailed, IsInOrder, IsLooked};
+ghost use Rattle.capture_reader.specs.Reader.{rest_told, records_held, lines_held, TookBoth, EndsAreTrue, GivesNext, IsAtEnd, IsOver, ShowsOver, StopsBecause, NewFailed, IsInOrder, IsLooked};
 ghost use Rattle.capture_reader.specs.Merge.{schedule_told, port_count};
 ghost use Rattle.capture_reader.specs.Taken.{whole_records, whole_lines, FailsFirst, FailsBehind, LooksAt};
 ghost use Rattle.psd_base.specs.Desk.{NoOutlet, ReadsSources, Touches};
@@ -54,6 +54,7 @@ impl Reader {
         // What was taken is held, and where a read failed nothing whole of its input was taken.
         ensures took { IfOk result (λ reader. TookBoth whole_records whole_lines reader
             (D.told desk.old) (D.told desk.new)) }
+        ensures ends { IfOk result (λ reader. EndsAreTrue reader (D.told desk.new)) }
         ensures first { IfErr result (FailsFirst whole_records whole_lines
             (D.told desk.old) (D.told desk.new)) }
         ensures desk { ReadsSources (D.told desk.old) (D.told desk.new) }
@@ -87,6 +88,7 @@ impl Reader {
     /// Goes on to the next event, and answers whether there is one, which `event` then gives. It first looks behind the
     /// event that was given before, in that event's source. An `Err` is a fault of that source, a read of it that failed,
     /// or a further event after as many as the limit allows. The events' ticks never fall.
+    #[inline(always)]
     pub fn advance<D: Desk>(&mut self, desk: &mut D) -> Result<bool, Stop>
         // There is an event: the next of those that were to come.
         ensures next { result ≡ Ok true → GivesNext self.new
@@ -101,6 +103,8 @@ impl Reader {
         // There is none, at this call and at each later one.
         ensures end { result ≡ Ok false → IsAtEnd self.new × ShowsOver None self.new
             × IsOver None (rest_told self.old (D.told desk.old)) }
+        ensures met { result ≡ Ok false → (self.new.capture.held.ended ≡ true)
+            × (self.new.script.held.ended ≡ true) }
         ensures at_end { IsAtEnd self.old → (result ≡ Ok false) × (self.new ≡ self.old)
             × (desk.new ≡ desk.old) }
 
@@ -124,7 +128,8 @@ impl Reader {
             ⊎ FailsBehind self.old.given stop) }
         ensures looks { Touches (LooksAt self.old.given) NoOutlet (D.told desk.old) (D.told desk.new) }
 
-        // Behind the end of a source it isn't read.
+        // Where the end of a source is met nothing is left of it, and behind the end it isn't read.
+        ensures ends { EndsAreTrue self.old (D.told desk.old) → EndsAreTrue self.new (D.told desk.new) }
         ensures unread_capture { self.old.capture.held.ended ≡ true → (self.new.capture.held.ended ≡ true)
             × ((D.told desk.new).left Input.Capture ≡ (D.told desk.old).left Input.Capture) }
         ensures unread_script { self.old.script.held.ended ≡ true → (self.new.script.held.ended ≡ true)
@@ -140,6 +145,7 @@ impl Reader {
     }
 
     /// The event that the last `advance` went on to. It borrows its act or its bytes from the reader.
+    #[inline(always)]
     pub fn event(&self) -> Event<'_>
         requires { IsSome self.now.given }
         ensures { Some (seen result) ≡ self.now.given }

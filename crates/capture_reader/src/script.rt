@@ -28,7 +28,7 @@ impl ScriptSource {
     ghost use Rattle.capture_reader.specs.Source.{after_ahead};
     ghost use Rattle.psd_base.specs.Desk.{OnlyReads, Told};
     ghost use Rattle.capture_reader.specs.Taken.{waiting, Took};
-    ghost use Rattle.capture_reader.specs.Window.{coming, FrontLine};
+    ghost use Rattle.capture_reader.specs.Window.{coming, EndIsTrue, FrontLine};
 
     /// A script of which nothing was read.
     pub fn new(window: Window, ports: u8) -> ScriptSource
@@ -60,6 +60,8 @@ impl ScriptSource {
             ≡ lines_later self.old (D.told desk.old)) }
         ensures unread { self.old.window.ended ≡ true → (self.new.window.ended ≡ true)
             × (desk.new ≡ desk.old) }
+        ensures ends { EndIsTrue self.old.window ((D.told desk.old).left Input.Script)
+            → EndIsTrue self.new.window ((D.told desk.new).left Input.Script) }
         ensures none { OnErr result (line_of self.new.ahead ≡ None) }
         ensures took { Took (lines_in self.old) (lines_in self.new) self.new.window.ended
             ((D.told desk.old).left Input.Script) ((D.told desk.new).left Input.Script)

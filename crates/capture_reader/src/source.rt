@@ -27,7 +27,7 @@ impl CaptureSource {
     ghost use Rattle.capture_reader.specs.Source.{later, records_later, records_in, after_ahead, AnnouncesNext, EndsNow, FailedLook, IsCaptureStop, IsNext, LookFailed, OpenFailed};
     ghost use Rattle.psd_base.specs.Desk.{OnlyReads, Told};
     ghost use Rattle.capture_reader.specs.Taken.{waiting, whole_records, whole_lines, Took, FailsFirst};
-    ghost use Rattle.capture_reader.specs.Window.{coming, still, HeldMore};
+    ghost use Rattle.capture_reader.specs.Window.{coming, still, EndIsTrue, HeldMore};
 
     /// Reads the header of a capture.
     pub fn open<D: Desk>(window: Window, desk: &mut D) -> Result<CaptureSource, Stop>
@@ -44,6 +44,7 @@ impl CaptureSource {
             ((D.told desk.old).left Input.Capture) ((D.told desk.new).left Input.Capture) 0) }
         ensures first { IfErr result (FailsFirst whole_records whole_lines
             (D.told desk.old) (D.told desk.new)) }
+        ensures ends { IfOk result (λ source. EndIsTrue source.window ((D.told desk.new).left Input.Capture)) }
         ensures err { IfErr result (OpenFailed (D.told desk.old) (D.told desk.new)) }
         ensures only { OnlyReads Input.Capture (D.told desk.old) (D.told desk.new) }
     {
@@ -103,6 +104,8 @@ impl CaptureSource {
             ≡ records_later self.old (D.told desk.old)) }
         ensures unread { self.old.window.ended ≡ true → (self.new.window.ended ≡ true)
             × (desk.new ≡ desk.old) }
+        ensures ends { EndIsTrue self.old.window ((D.told desk.old).left Input.Capture)
+            → EndIsTrue self.new.window ((D.told desk.new).left Input.Capture) }
         ensures none { OnErr result (ahead_of self.new.ahead ≡ None) }
         ensures took { Took (records_in self.old) (records_in self.new) self.new.window.ended
             ((D.told desk.old).left Input.Capture) ((D.told desk.new).left Input.Capture)
@@ -130,6 +133,7 @@ impl CaptureSource {
     }
 
     /// Looks at the next record, whose head is held.
+    #[inline(always)]
     fn look_at_head<D: Desk>(&mut self, desk: &mut D) -> Result<(), Stop>
         requires whole { 8 ≤ length self.old.window.bytes }
         requires ports { self.old.ports ≤ MAX_PORTS }
@@ -151,6 +155,8 @@ impl CaptureSource {
             ≡ records_later self.old (D.told desk.old)) }
         ensures unread { self.old.window.ended ≡ true → (self.new.window.ended ≡ true)
             × (desk.new ≡ desk.old) }
+        ensures ends { EndIsTrue self.old.window ((D.told desk.old).left Input.Capture)
+            → EndIsTrue self.new.window ((D.told desk.new).left Input.Capture) }
         ensures only { OnlyReads Input.Capture (D.told desk.old) (D.told desk.new) }
     {
         let head = read_head(self.window.bytes());
@@ -161,6 +167,7 @@ impl CaptureSource {
     }
 
     /// Looks at the payload of the next record, whose head is held.
+    #[inline(always)]
     fn look_at_payload<D: Desk>(
         &mut self,
         desk: &mut D,
@@ -186,6 +193,8 @@ impl CaptureSource {
             ≡ records_later self.old (D.told desk.old)) }
         ensures unread { self.old.window.ended ≡ true → (self.new.window.ended ≡ true)
             × (desk.new ≡ desk.old) }
+        ensures ends { EndIsTrue self.old.window ((D.told desk.old).left Input.Capture)
+            → EndIsTrue self.new.window ((D.told desk.new).left Input.Capture) }
         ensures only { OnlyReads Input.Capture (D.told desk.old) (D.told desk.new) }
     {
         let size = HEAD_SIZE + head.length as usize;
@@ -220,6 +229,7 @@ impl CaptureSource {
     }
 
     /// The next record, which is held, becomes the one that was read ahead.
+    #[inline(always)]
     fn take_record(&mut self, head: &Head, form: Form) -> Result<(), Stop>
         requires sound { AnnouncesNext self.old head.now form }
         requires enough { size_of head.now ≤ length self.old.window.bytes }

@@ -2,7 +2,7 @@
 ghost use Rattle.std.specs.Prelude.{◌≡◌, ◌⊎◌, ◌+◌, ◌-◌, ◌<◌, ◌≤◌, List, [], ◌++◌, length, take, drop, true, false, option_map, Ok, IfOk, IfSome, IfNone, OnOk, OnErr, position, slice_range};
 ghost use Rattle.psd_base.specs.Desk.{OnlyReads, ReadFailed};
 ghost use Rattle.capture_reader.specs.Script.{is_line_feed};
-ghost use Rattle.capture_reader.specs.Window.{Held, still, Begins, FrontLine, HasNoLine, HeldMore};
+ghost use Rattle.capture_reader.specs.Window.{Held, still, Begins, EndIsTrue, FrontLine, HasNoLine, HeldMore};
 
 use crate::line::LINE_MAX;
 use psd_base::{Desk, DeskFailed, Input};
@@ -47,6 +47,7 @@ impl Window {
     }
 
     /// The bytes that are held.
+    #[inline(always)]
     pub fn bytes(&self) -> &[u8]
         ensures { result.now ≡ self.now.bytes }
     {
@@ -72,6 +73,7 @@ impl Window {
     }
 
     /// The first bytes are used up.
+    #[inline(always)]
     pub fn drop_front(&mut self, count: usize)
         requires { count ≤ length self.old.bytes }
         ensures { self.new ≡ record self.old { bytes = drop count self.old.bytes } }
@@ -99,6 +101,8 @@ impl Window {
         ensures short { OnErr result (length self.new.bytes < count) }
         ensures open { OnErr result (self.new.ended ≡ false) }
         ensures unread { self.old.ended ≡ true → (self.new ≡ self.old) × (desk.new ≡ desk.old) }
+        ensures ends { EndIsTrue self.old ((D.told desk.old).left from)
+            → EndIsTrue self.new ((D.told desk.new).left from) }
         ensures failed { OnErr result (ReadFailed from (D.told desk.old) (D.told desk.new)) }
         ensures only { OnlyReads from (D.told desk.old) (D.told desk.new) }
     {
@@ -122,6 +126,8 @@ impl Window {
         ensures part { OnErr result (HasNoLine self.new.bytes) }
         ensures open { OnErr result (self.new.ended ≡ false) }
         ensures unread { self.old.ended ≡ true → (self.new ≡ self.old) × (desk.new ≡ desk.old) }
+        ensures ends { EndIsTrue self.old ((D.told desk.old).left from)
+            → EndIsTrue self.new ((D.told desk.new).left from) }
         ensures failed { OnErr result (ReadFailed from (D.told desk.old) (D.told desk.new)) }
         ensures only { OnlyReads from (D.told desk.old) (D.told desk.new) }
     {
@@ -154,6 +160,7 @@ impl Window {
             ((D.told desk.old).left from) ((D.told desk.new).left from) }
         ensures front { Begins self.old.bytes self.new.bytes }
         ensures more { OnOk result (self.new.ended ≡ false → length self.old.bytes < length self.new.bytes) }
+        ensures ends { EndIsTrue self.new ((D.told desk.new).left from) }
         ensures same { OnErr result (self.new ≡ self.old) }
         ensures failed { OnErr result (ReadFailed from (D.told desk.old) (D.told desk.new)) }
         ensures only { OnlyReads from (D.told desk.old) (D.told desk.new) }

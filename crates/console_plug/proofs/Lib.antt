@@ -1,3 +1,4 @@
 pub mod Powering
 pub mod Snapshots
 pub mod Naming
+mod Examples

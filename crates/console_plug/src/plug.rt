@@ -8,7 +8,7 @@ ghost use Rattle.console_plug.specs.Moments.{Moment, Attached, Detached, Replied
 ghost use Rattle.console_plug.specs.PlugGives.{first_ask, notes_at, orders_at, power_orders};
 ghost use Rattle.console_host.specs.Lives.{Call, Began, accepted_of, is_ready_in, layout_in, place_in};
 ghost use Rattle.console_host.specs.declared.fit.TheConstants.{INTERFACES_MAX};
-ghost use Rattle.console_plug.specs.Lives.{life_at};
+ghost use Rattle.console_plug.specs.Lives.{is_attached, life_at};
 
 use console_host::{Attachment, Next, SILENT};
 use hid_report::Layout;
@@ -187,6 +187,14 @@ impl ConsolePlug {
             Next::Refused(_) => self.power_off(orders),
             Next::Ignored => {}
         }
+    }
+
+    /// Whether a peripheral is there.
+    pub fn is_attached(&self) -> bool
+        ensures { (plug : Plug) (rules : RuleSet) (past : List Moment) → PlugStands plug rules self.now past
+            → result ≡ is_attached past }
+    {
+        self.attached
     }
 
     /// Whether the present life is ready.

@@ -4,6 +4,7 @@ ghost use Rattle.psd_base.specs.KeySet.{has_no_key, no_keys};
 ghost use Rattle.psd_base.specs.declared.console.Plug.TheVariants.{Keyboard};
 ghost use Rattle.peripheral_filter.specs.declared.rule.RuleSet.{RuleSet};
 ghost use Rattle.console_host.specs.declared.fit.TheConstants.{INTERFACES_MAX};
+ghost use Rattle.console_plug.specs.Given.{keys_given};
 ghost use Rattle.console_plug.specs.Moments.{Moment, Detached, Darkened, Reported};
 ghost use Rattle.console_plug.specs.PlugStands.{PlugStands};
 ghost use Rattle.hid_report.specs.Keys.{keys_of};
@@ -44,17 +45,24 @@ impl ShownKeys {
         }
     }
 
-    /// A report of this interface came from the keyboard at the plug. One that isn't that of an accepted interface, or
-    /// that its layout doesn't read, changes nothing.
+    /// A report of this interface came from the keyboard at the plug. Gives all keys that are shown after it. One that
+    /// isn't that of an accepted interface, or that its layout doesn't read, changes nothing and gives nothing.
     #[tactic(auto, using(crate::proofs::Snapshots::snapshot_laws), unfolding(crate::specs::Shown::shown_keys))]
-    pub fn report(&mut self, plug: &ConsolePlug, interface: u8, bytes: &[u8])
-        ensures { (rules : RuleSet) (past : List Moment) → PlugStands Keyboard rules plug.now past
+    pub fn report(&mut self, plug: &ConsolePlug, interface: u8, bytes: &[u8]) -> Option<KeySet>
+        ensures stands { (rules : RuleSet) (past : List Moment) → PlugStands Keyboard rules plug.now past
             → KeysStand rules self.old past
             → KeysStand rules self.new (Reported interface bytes.now ∷ past) }
+        ensures given { (rules : RuleSet) (past : List Moment) → PlugStands Keyboard rules plug.now past
+            → KeysStand rules self.old past
+            → result ≡ keys_given rules (Reported interface bytes.now) past }
     {
-        if let Some(snapshot) = read(plug, interface, bytes) {
-            self.each[snapshot.place] = snapshot.keys;
-            self.all = all_keys(&self.each);
+        match read(plug, interface, bytes) {
+            Some(snapshot) => {
+                self.each[snapshot.place] = snapshot.keys;
+                self.all = all_keys(&self.each);
+                Some(self.all)
+            }
+            None => None,
         }
     }
 

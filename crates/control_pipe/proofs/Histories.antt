@@ -10,13 +10,14 @@ use Rattle.psd_base.specs.declared.act.Answer.TheVariants as answer
 use Rattle.psd_base.specs.declared.packet.TheConstants.{PACKET_SIZE}
 use Rattle.control_pipe.specs.declared.registers.Registers.{Registers}
 use Rattle.control_pipe.specs.declared.request.Request.{Request}
+use Rattle.control_pipe.specs.declared.request.Request.TheVariants as request
 use Rattle.control_pipe.specs.Transfer.{Transfer, packets_of, Reading, Writing, NoData, form_of, has_status_in, is_completed_by, all_fit}
-use Rattle.control_pipe.specs.Requests.{Offer, when, request_of, due_for}
+use Rattle.control_pipe.specs.Requests.{Offer, when, request_of, due_for, function_for}
 use Rattle.control_pipe.specs.Registers.{registers_of}
 use Rattle.control_pipe.specs.Progress.{Progress, first_stage, begun_progress, in_answer, after_in, completion, out_answer, after_out}
 use Rattle.control_pipe.specs.Control.{ControlAct, Session, continued, begun, completed_with, session_with, session_of, answer_in, control_answer, completed_in, transfer_completed, effect_of_completed, control_effect, function_of_completed, control_function, address_after}
 use Rattle.control_pipe.specs.PipeStands.{PipeValue, progress_of_form, progress_of, PipeStands}
-use Rattle.control_pipe.specs.PipeStep.{completed_by, registers_for, completed_registers, completed_effect, completed_function, registers_at, progress_at, answer_at, effect_at}
+use Rattle.control_pipe.specs.PipeStep.{completed_by, registers_for, completed_registers, completed_effect, completed_function, registers_at, progress_at, answer_at, effect_at, IsKeptBy}
 use Rattle.control_pipe.proofs.Requests.{registers_of-completed}
 use Rattle.control_pipe.proofs.Stages.{contents_of, transfer_answer-In, transfer_answer-Out, progress_of-In, progress_of-Out, completed_by_In}
 
@@ -240,3 +241,15 @@ module _ {D : Type 0} where
     function_after after_class tick act =
         at_past (λ r p. completed_function after_class tick (completed_by r p act) pipe.function)
         ∙ sym (control_function-completed_function after_class past tick act pipe.function)
+
+-- what no class request changes, a completed request doesn't change
+pub completed-keeps : {D : Type 0} (after_class : D → ℕ → Setup → List ℕ → D) (test : D → Bool) → IsKeptBy after_class test → (tick : ℕ) (done : Option (Setup × List ℕ)) (device : D)
+    → test (completed_function after_class tick done device) ≡ test device
+completed-keeps after_class test kept tick None device = refl
+completed-keeps after_class test kept tick (Some done) device = by (request_of done.0) where
+  by : (found : Option Request) → test (function_for found (after_class device tick done.0 done.1) device) ≡ test device
+  by None = refl
+  by (Some request.ClassOut) = kept device tick done.0 done.1
+  by (Some request.ClassIn) = refl
+  by (Some request.GetDescriptor) = refl
+  by (Some (request.Standard standard)) = refl

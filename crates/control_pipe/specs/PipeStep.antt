@@ -1,5 +1,5 @@
 -- The exact step of a pipe at each act, in terms of its registers and of how far the last transfer is.
-use Rattle.std.specs.Prelude.{ℕ, ◌&&◌, ◌==◌, List, Option, Some, None, if◌then◌else◌}
+use Rattle.std.specs.Prelude.{◌≡◌, ℕ, Bool, ◌&&◌, ◌==◌, List, Option, Some, None, if◌then◌else◌}
 use Rattle.psd_base.specs.declared.setup.Setup.{Setup}
 use Rattle.psd_base.specs.declared.act.Act.{Act}
 use Rattle.psd_base.specs.declared.act.Act.TheVariants as act
@@ -42,6 +42,11 @@ abbrev pub completed_function : {D : Type 0} → (D → ℕ → Setup → List �
 completed_function after_class tick None device = device
 completed_function after_class tick (Some done) device =
     function_for (request_of done.0) (after_class device tick done.0 done.1) device
+
+-- whether no class request changes what a test says of the device's function
+abbrev pub IsKeptBy : {D : Type 0} → (D → ℕ → Setup → List ℕ → D) → (D → Bool) → Type 0
+IsKeptBy {D} after_class test =
+    (device : D) (tick : ℕ) (setup : Setup) (bytes : List ℕ) → test (after_class device tick setup bytes) ≡ test device
 
 -- the registers after an act
 abbrev pub registers_at : Registers → Progress → Act → Registers

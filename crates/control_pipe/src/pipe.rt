@@ -1,6 +1,6 @@
 //! The control endpoint of an emulated device.
-ghost use Rattle.std.specs.Prelude.{IsTrue, ◌≡◌, ◌≤◌, ℕ, List, [], ◌∷◌, ◌==◌, length, None, if◌then◌else◌};
-ghost use Rattle.control_pipe.specs.PipeStep.{registers_for};
+ghost use Rattle.std.specs.Prelude.{IsTrue, ◌≡◌, ◌≤◌, ℕ, Bool, List, [], ◌∷◌, ◌==◌, length, None, if◌then◌else◌};
+ghost use Rattle.control_pipe.specs.PipeStep.{registers_for, IsKeptBy};
 ghost use Rattle.psd_base.specs.declared.packet.TheConstants.{PACKET_SIZE};
 ghost use Rattle.std.specs.Borrow.{sem};
 ghost use Rattle.control_pipe.specs.Control.{ControlAct, is_control_act, offer_for, offer_at, moment_of, control_answer, control_effect, control_function, address_after, is_configured_after, is_halted_after};
@@ -70,6 +70,10 @@ impl<F: Function> Pipe<F> {
         // A class request is carried out once, at the act that completes it, and nothing else changes the function.
         ensures function { (past : List ControlAct) → PipeStands self.old past
             → self.new.function ≡ control_function F.after_class past tick act.now self.old.function }
+
+        // So what no class request changes stays, whatever the pipe stood for.
+        ensures keeps { (test : F → Bool) → IsKeptBy F.after_class test
+            → test self.new.function ≡ test self.old.function }
     {
         self.step(tick, act, answer)
     }

@@ -68,7 +68,8 @@ impl Keyboard {
 
     /// A keyboard that isn't entered, with nothing pressed.
     pub fn new() -> Keyboard
-        ensures { KeyboardStands result [] }
+        ensures stands { KeyboardStands result [] }
+        ensures entered { result.entered ≡ false }
     {
         Keyboard {
             last: KeySet::new(),
@@ -93,7 +94,8 @@ impl Keyboard {
     /// The port is selected at this tick.
     pub fn enter(&mut self, tick: Tick)
         requires { self.old.entered ≡ false }
-        ensures { (past : List KeyboardEntry) → KeyboardStands self.old past
+        ensures entered { self.new.entered ≡ true }
+        ensures stands { (past : List KeyboardEntry) → KeyboardStands self.old past
             → KeyboardStands self.new (Entered tick ∷ past) }
     {
         self.entered = true;
@@ -103,7 +105,8 @@ impl Keyboard {
     /// The port is left. A release is due where the report that was made last has something pressed.
     pub fn part(&mut self)
         requires { self.old.entered ≡ true }
-        ensures { (past : List KeyboardEntry) → KeyboardStands self.old past
+        ensures entered { self.new.entered ≡ false }
+        ensures stands { (past : List KeyboardEntry) → KeyboardStands self.old past
             → KeyboardStands self.new (Parted ∷ past) }
     {
         self.entered = false;
@@ -113,7 +116,8 @@ impl Keyboard {
     /// The bus was reset at this tick: the report that wasn't acknowledged and a release that is due are dropped, the idle
     /// rate is `IDLE_RATE` again, the protocol that of the report descriptor, and no lamp is on.
     pub fn reset(&mut self, tick: Tick)
-        ensures { (past : List KeyboardEntry) → KeyboardStands self.old past
+        ensures entered { self.new.entered ≡ self.old.entered }
+        ensures stands { (past : List KeyboardEntry) → KeyboardStands self.old past
             → KeyboardStands self.new (Reset tick ∷ past) }
     {
         self.configured();
@@ -125,7 +129,8 @@ impl Keyboard {
     /// SET_CONFIGURATION was completed (USB 2.0, 9.4.7), which drops both reports and restarts the toggle. What class
     /// requests set stays.
     pub fn configured(&mut self)
-        ensures { (past : List KeyboardEntry) → KeyboardStands self.old past
+        ensures entered { self.new.entered ≡ self.old.entered }
+        ensures stands { (past : List KeyboardEntry) → KeyboardStands self.old past
             → KeyboardStands self.new (Configured ∷ past) }
     {
         self.last = KeySet::new();
@@ -135,7 +140,8 @@ impl Keyboard {
 
     /// The toggle is DATA0 again.
     pub fn restart(&mut self)
-        ensures { (past : List KeyboardEntry) → KeyboardStands self.old past
+        ensures entered { self.new.entered ≡ self.old.entered }
+        ensures stands { (past : List KeyboardEntry) → KeyboardStands self.old past
             → KeyboardStands self.new (Restarted ∷ past) }
     {
         self.toggle = false;
@@ -187,6 +193,7 @@ impl Keyboard {
     /// where the idle rate says so; NAK.
     pub fn poll(&mut self, tick: Tick, acked: bool, latch: &mut KeyLatch) -> Answer
         requires { self.old.entered ≡ true }
+        ensures entered { self.new.entered ≡ self.old.entered }
         ensures stands { (past : List KeyboardEntry) (keys : List KeyEntry) → KeyboardStands self.old past
             → KeyLatchStands latch.old keys
             → KeyboardStands self.new (Polled tick (given_at (next_change keys) tick past) acked ∷ past) }
@@ -205,6 +212,7 @@ impl Keyboard {
     /// Takes a poll while the port isn't selected: the report that wasn't acknowledged, the release that is due, or NAK.
     pub fn poll_apart(&mut self, acked: bool) -> Answer
         requires { self.old.entered ≡ false }
+        ensures entered { self.new.entered ≡ self.old.entered }
         ensures stands { (past : List KeyboardEntry) → KeyboardStands self.old past
             → KeyboardStands self.new (PolledApart (given_apart past) acked ∷ past) }
         ensures answer { (past : List KeyboardEntry) → KeyboardStands self.old past

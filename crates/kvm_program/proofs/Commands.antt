@@ -1,6 +1,9 @@
 -- What a command gives, put together from what its parts give.
-use Rattle.std.proofs.Common.{◌≡◌, ◌≢◌, ℕ, ◌≤◌, inl, inr, List, [], Option, Some, None, IfSome, IfErr, IsOk, Result, Ok, Err, refl, sym, ap, ◌∙◌, subst, arith}
-use Rattle.psd_base.specs.Desk.{IsAppendedPart, NoOutlet, OnlyReads, OnlyWrites, ReadFailed, Told, Touches, WriteFailed}
+use Rattle.std.proofs.Common.{◌≡◌, ◌≢◌, ℕ, ◌≤◌, inl, inr, List, [], Option, Some, None, IfSome, IfErr, IsOk, OnOk, Result, Ok, Err, refl, sym, ap, ◌∙◌, subst, arith}
+use Rattle.psd_base.specs.Desk.{IsAppendedPart, OnlyReads, OnlyWrites, Told}
+use Rattle.psd_base.specs.History.{onto}
+use Rattle.km_port.proofs.DeliveryLaw.{delivery-all}
+use Rattle.switch_core.specs.View.{view}
 use Rattle.psd_base.specs.declared.event.TheConstants.{EVENTS_MAX}
 use Rattle.psd_base.specs.declared.outlet.Input.{Input}
 use Rattle.psd_base.specs.declared.outlet.Input.TheVariants as input
@@ -12,16 +15,18 @@ use Rattle.psd_base.specs.declared.stop.Stop.TheVariants.{Usage, Rules, Capture,
 use Rattle.psd_base.specs.declared.summary.Summary.{Summary}
 use Rattle.psd_base.specs.Event.{Seen}
 use Rattle.peripheral_filter.specs.declared.rule.RuleSet.{RuleSet}
-use Rattle.admin_rules.specs.RuleFile.{Lists, lists_of, rules_of}
+use Rattle.admin_rules.specs.RuleFile.{lists_of, rules_of}
 use Rattle.capture_reader.specs.Reader.{IsOver, NewFailed}
 use Rattle.capture_reader.specs.Merge.{schedule_told}
 use Rattle.capture_reader.specs.Schedule.{Schedule, over}
+use Rattle.capture_reader.specs.Taken.{FailsFirst, TookNone, shortest, whole_lines, whole_records}
+use Rattle.capture_reader.proofs.Shortest.{shortest_none}
 use Rattle.port_transcript.specs.StopLine.{stop_text}
 use Rattle.kvm_program.specs.declared.rules.TheConstants.{RULES_READ}
-use Rattle.kvm_program.specs.Check.{CheckEnds, Checks, CheckStops, OnlyChecks}
-use Rattle.kvm_program.specs.Outlets.{AndFaults, Grew}
-use Rattle.kvm_program.specs.Progress.{PortsAboveStay, WroteAtStop}
-use Rattle.kvm_program.specs.Replay.{EndsUnlessNoMemory, FaultWritten, IsUnread, NothingFailed, OnlyReplays, OnlyRuns, Replays, ReportAtStop, ReportWritten, RulesJudged, RunStops, Serves, TextWritten}
+use Rattle.kvm_program.specs.Check.{CheckEnds, Checks, CheckStops}
+use Rattle.kvm_program.specs.Outlets.{Grew}
+use Rattle.kvm_program.specs.Progress.{NothingLeft, PortsAboveStay, WroteAtStop, WroteTaken}
+use Rattle.kvm_program.specs.Replay.{EndsUnlessNoMemory, FaultWritten, IsUnread, NothingFailed, OnlyRuns, Replays, ReportAtStop, ReportWritten, RulesJudged, RunStops, Serves, TextWritten}
 use Rattle.kvm_program.specs.Report.{report_text, summary_of}
 use Rattle.kvm_program.specs.Rules.{FewRulesTaken, RulesAreFaulty, RulesStop, TakesAtMost}
 use Rattle.kvm_program.specs.Run.{Run, run_told, run_under}
@@ -30,7 +35,7 @@ use Rattle.kvm_program.specs.Log.{log_of}
 use Rattle.kvm_program.specs.Texts.{text_of}
 use Rattle.kvm_program.specs.Transcript.{transcript_of}
 use Rattle.kvm_program.proofs.Parts.{Grew-nothing, Grew-whole}
-use Rattle.kvm_program.proofs.Serving.{Grew-empty, Rose-between}
+use Rattle.kvm_program.proofs.Serving.{Grew-empty, Rose-between, SameSources, WroteAtStop-between}
 use Rattle.kvm_program.proofs.Told.{run_of_taken, schedule_of_run, schedule_of_told}
 
 -- a fact of what an outlet held before and after, where both are the same elsewhere
@@ -54,17 +59,26 @@ Report-stays TooLong text before after same = same
 Report-stays (ReadFault which) text before after same = same
 Report-stays OutOfMemory text before after same = same
 
+-- nothing is left where what is left stays
+NothingLeft-same : (before after : Told) → SameSources before after → NothingLeft before → NothingLeft after
+NothingLeft-same before after same left = record {
+  capture = subst (λ (rest : Option (List ℕ)). IfSome rest (λ bytes. bytes ≡ [])) (sym same.0) left.capture;
+  script = subst (λ (rest : Option (List ℕ)). IfSome rest (λ bytes. bytes ≡ [])) (sym same.1) left.script;
+}
+
 -- serving stopped
 pub Serves-stopped : (stop : Stop) (run : Run) (before after : Told)
-    → ((to : Outlet) → WroteAtStop stop (text_of run.rules to run.schedule.events) (before.sent to) (after.sent to))
+    → ((to : Outlet) → WroteAtStop stop (text_of run.rules to) run.schedule.events to before after)
     → PortsAboveStay run.ports before after
     → after.sent outlet.Report ≡ before.sent outlet.Report → Serves (Err stop) run before after
 Serves-stopped stop run before after written above same = record {
   ports = λ port. written (outlet.Port port);
+  delivered = λ port served left is. delivery-all (view run.rules port (onto served []));
   above = above;
   console = written outlet.Console;
   log = written outlet.Log;
   report = Report-stays stop _ _ _ same;
+  taken = tt;
   ok = tt;
 }
 
@@ -77,10 +91,12 @@ pub Serves-unreported : (run : Run) (before mid after : Told)
     → Serves (Err (WriteFault outlet.Report)) run before after
 Serves-unreported run before mid after written above unreported only part = record {
   ports = λ port. Grew-whole _ _ _ (rw (only.outlets (outlet.Port port) (λ e. absurd (cc))) (written (outlet.Port port)));
+  delivered = λ port served left is. delivery-all (view run.rules port (onto served []));
   above = λ port over. only.outlets (outlet.Port port) (λ e. absurd (cc)) ∙ above port over;
   console = Grew-whole _ _ _ (rw (only.outlets outlet.Console (λ e. absurd (cc))) (written outlet.Console));
   log = Grew-whole _ _ _ (rw (only.outlets outlet.Log (λ e. absurd (cc))) (written outlet.Log));
   report = subst (λ (start : Option (List ℕ)). IsAppendedPart start (after.sent outlet.Report) (report_text (summary_of run.rules run.ports run.schedule.events))) unreported part;
+  taken = tt;
   ok = tt;
 }
 
@@ -88,59 +104,81 @@ Serves-unreported run before mid after written above unreported only part = reco
 pub Serves-all : (run : Run) (before mid after : Told) (summary : Summary)
     → ((to : Outlet) → Grew (before.sent to) (mid.sent to) (text_of run.rules to run.schedule.events))
     → PortsAboveStay run.ports before mid
-    → mid.sent outlet.Report ≡ before.sent outlet.Report → OnlyWrites outlet.Report mid after
+    → mid.sent outlet.Report ≡ before.sent outlet.Report → OnlyWrites outlet.Report mid after → NothingLeft mid
     → run.schedule.stop ≡ None → summary ≡ summary_of run.rules run.ports run.schedule.events
     → Grew (mid.sent outlet.Report) (after.sent outlet.Report) (report_text summary)
     → Serves (Ok summary) run before after
-Serves-all run before mid after summary written above unreported only whole is report = record {
+Serves-all run before mid after summary written above unreported only nothing_left whole is report = record {
   ports = λ port. rw (only.outlets (outlet.Port port) (λ e. absurd (cc))) (written (outlet.Port port));
+  delivered = λ port served left is. delivery-all (view run.rules port (onto served []));
   above = λ port over. only.outlets (outlet.Port port) (λ e. absurd (cc)) ∙ above port over;
   console = rw (only.outlets outlet.Console (λ e. absurd (cc))) (written outlet.Console);
   log = rw (only.outlets outlet.Log (λ e. absurd (cc))) (written outlet.Log);
   report = subst (λ (s : Summary). Grew (before.sent outlet.Report) (after.sent outlet.Report) (report_text s)) is
       (subst (λ (start : Option (List ℕ)). Grew start (after.sent outlet.Report) (report_text summary)) unreported report);
+  taken = NothingLeft-same mid after (only.inputs input.Capture (λ e. e), only.inputs input.Script (λ e. e)) nothing_left;
   ok = (whole, is);
 }
 
 -- there was no reader, so that nothing was written
 pub Serves-none : (rules : RuleSet) (stop : Stop) (run : Run) (before after : Told) (unread : Type 0) → run_under rules before ≡ Some run
-    → NewFailed (schedule_told EVENTS_MAX before) before after unread stop → ((to : Outlet) → after.sent to ≡ before.sent to)
-    → Serves (Err stop) run before after
-Serves-none rules stop run before after unread told failed same =
-    Serves-stopped stop run before after (λ to. by_stop stop to failed) (λ port above. same (outlet.Port port)) (same outlet.Report) where
+    → NewFailed (schedule_told EVENTS_MAX before) before after unread stop → FailsFirst whole_records whole_lines before after stop
+    → ((to : Outlet) → after.sent to ≡ before.sent to) → Serves (Err stop) run before after
+Serves-none rules stop run before after unread told failed first same =
+    Serves-stopped stop run before after (λ to. by_stop stop to failed first) (λ port above. same (outlet.Port port)) (same outlet.Report) where
       nothing : (end : Option Stop) (to : Outlet) → IsOver end (schedule_told EVENTS_MAX before) → Grew (before.sent to) (after.sent to) (text_of run.rules to run.schedule.events)
       nothing end to is =
           let Over : Option Schedule → Type 0 = λ coming. IsOver end coming in
           let none : run.schedule ≡ over end = subst Over (schedule_of_run rules before run told).0 is in
           subst (λ (s : Schedule). Grew (before.sent to) (after.sent to) (text_of run.rules to s.events)) (sym none) (Grew-empty run.rules (before.sent to) (after.sent to) to (same to))
 
-      by_stop : (stop : Stop) (to : Outlet) → NewFailed (schedule_told EVENTS_MAX before) before after unread stop
-          → WroteAtStop stop (text_of run.rules to run.schedule.events) (before.sent to) (after.sent to)
-      by_stop (Capture offset why) to is = nothing (Some (Capture offset why)) to is
-      by_stop (Script line why) to is = nothing (Some (Script line why)) to is
-      by_stop TooLong to is = absurd is
-      by_stop (ReadFault input.Capture) to is = (0, Grew-nothing _ _ (same to))
-      by_stop (ReadFault input.Script) to is = (0, Grew-nothing _ _ (same to))
-      by_stop (ReadFault input.Rules) to is = absurd is
-      by_stop (WriteFault place) to is = absurd is
-      by_stop Usage to is = absurd is
-      by_stop (Rules why) to is = absurd is
-      by_stop OutOfMemory to is = same to
+      taken : (which : Input) (whole : List ℕ → ℕ) (to : Outlet) → TookNone whole (before.left which) (after.left which)
+          → WroteTaken which whole (text_of run.rules to) run.schedule.events to before after
+      taken which whole to took = record {
+        bytes = took.bytes;
+        left_is = took.left_is;
+        grew =
+            let none : shortest which (whole took.bytes) run.schedule.events ≡ [] =
+            ap (λ (n : ℕ). shortest which n run.schedule.events) took.none ∙ shortest_none which run.schedule.events in
+            subst (λ (events : List Seen). Grew (before.sent to) (after.sent to) (text_of run.rules to events)) (sym none) (Grew-empty run.rules (before.sent to) (after.sent to) to (same to));
+      }
 
--- what a run gives, where nothing was written before it, and only the faults after it
+      by_stop : (stop : Stop) (to : Outlet) → NewFailed (schedule_told EVENTS_MAX before) before after unread stop → FailsFirst whole_records whole_lines before after stop
+          → WroteAtStop stop (text_of run.rules to) run.schedule.events to before after
+      by_stop (Capture offset why) to is first = nothing (Some (Capture offset why)) to is
+      by_stop (Script line why) to is first = nothing (Some (Script line why)) to is
+      by_stop TooLong to is first = absurd is
+      by_stop (ReadFault input.Capture) to is first = taken input.Capture whole_records to first
+      by_stop (ReadFault input.Script) to is first = taken input.Script whole_lines to first
+      by_stop (ReadFault input.Rules) to is first = absurd is
+      by_stop (WriteFault place) to is first = absurd is
+      by_stop Usage to is first = absurd is
+      by_stop (Rules why) to is first = absurd is
+      by_stop OutOfMemory to is first = same to
+
+-- what a run gives, where neither of its sources was read and nothing was written before it, and only the faults after it
 pub Serves-between : (result : Result Summary Stop) (run : Run) (before mid mid_after after : Told)
     → ((to : Outlet) → mid.sent to ≡ before.sent to) → ((to : Outlet) → to ≢ outlet.Faults → after.sent to ≡ mid_after.sent to)
+    → SameSources before mid → SameSources mid_after after
     → Serves result run mid mid_after → Serves result run before after
-Serves-between result run before mid mid_after after same same_after serves = record {
-  ports = λ port. between (outlet.Port port) (TextWritten result (transcript_of run.rules port run.schedule.events)) (λ e. absurd (cc)) (serves.ports port);
+Serves-between result run before mid mid_after after same same_after sources sources_after serves = record {
+  ports = λ port. text result (transcript_of run.rules port) (outlet.Port port) (λ e. absurd (cc)) (serves.ports port);
+  delivered = serves.delivered;
   above = λ port over. same_after (outlet.Port port) (λ e. absurd (cc)) ∙ (serves.above port over ∙ same (outlet.Port port));
-  console = between outlet.Console (TextWritten result (console_of run.rules run.schedule.events)) (λ e. absurd (cc)) serves.console;
-  log = between outlet.Log (TextWritten result (log_of run.rules run.schedule.events)) (λ e. absurd (cc)) serves.log;
-  report = between outlet.Report (ReportWritten result (report_text (summary_of run.rules run.ports run.schedule.events))) (λ e. absurd (cc)) serves.report;
+  console = text result (console_of run.rules) outlet.Console (λ e. absurd (cc)) serves.console;
+  log = text result (log_of run.rules) outlet.Log (λ e. absurd (cc)) serves.log;
+  report = moved (ReportWritten result (report_text (summary_of run.rules run.ports run.schedule.events))) _ _ _ _ (sym (same outlet.Report)) (same_after outlet.Report (λ e. absurd (cc))) serves.report;
+  taken = drained result serves.taken;
   ok = serves.ok;
 } where
-  between : (to : Outlet) (Holds : Option (List ℕ) → Option (List ℕ) → Type 0) → to ≢ outlet.Faults → Holds (mid.sent to) (mid_after.sent to) → Holds (before.sent to) (after.sent to)
-  between to Holds apart holds = moved Holds (mid.sent to) (before.sent to) (mid_after.sent to) (after.sent to) (sym (same to)) (same_after to apart) holds
+  drained : (result : Result Summary Stop) → OnOk result (NothingLeft mid_after) → OnOk result (NothingLeft after)
+  drained (Ok summary) left = NothingLeft-same mid_after after sources_after left
+  drained (Err stop) left = tt
+
+  text : (result : Result Summary Stop) (of : List Seen → List ℕ) (to : Outlet) → to ≢ outlet.Faults
+      → TextWritten result of run.schedule.events to mid mid_after → TextWritten result of run.schedule.events to before after
+  text (Ok summary) of to apart grew = moved (λ b a. Grew b a (of run.schedule.events)) (mid.sent to) (before.sent to) (mid_after.sent to) (after.sent to) (sym (same to)) (same_after to apart) grew
+  text (Err stop) of to apart wrote = WroteAtStop-between stop of run.schedule.events to before mid mid_after after (same to) (same_after to apart) sources sources_after wrote
 
 -- the rules and the number of ports by another way
 pub Serves-same : (result : Result Summary Stop) (run : Run) (rules : RuleSet) (ports : ℕ) (before after : Told) → run.rules ≡ rules → ports ≡ run.ports
@@ -202,7 +240,7 @@ replay_completes (Err stop) before after run bytes because told whole read sound
 pub Replays-refused : (stop : Stop) (before after : Told) → RulesStop before after stop → FewRulesTaken before after → OnlyReads input.Rules before after
     → Replays (Err stop) before after
 Replays-refused stop before after because few only = record {
-  serves = λ run told. Serves-stopped stop run before after (λ to. written stop to (text_of run.rules to run.schedule.events) because)
+  serves = λ run told. Serves-stopped stop run before after (λ to. written stop run to because)
       (λ port above. same (outlet.Port port)) (same outlet.Report);
   rules = λ bytes read. judged stop bytes read because;
   stop = by_stop stop because;
@@ -221,17 +259,17 @@ Replays-refused stop before after because few only = record {
   unread : IsUnread before after
   unread = (only.inputs input.Capture (λ e. absurd (cc)), only.inputs input.Script (λ e. absurd (cc)))
 
-  written : (stop : Stop) (to : Outlet) (text : List ℕ) → RulesStop before after stop → WroteAtStop stop text (before.sent to) (after.sent to)
-  written (Rules why) to text is = same to
-  written (ReadFault input.Rules) to text is = same to
-  written (ReadFault input.Capture) to text is = absurd is
-  written (ReadFault input.Script) to text is = absurd is
-  written OutOfMemory to text is = same to
-  written (Capture offset why) to text is = absurd is
-  written (Script line why) to text is = absurd is
-  written TooLong to text is = absurd is
-  written (WriteFault place) to text is = absurd is
-  written Usage to text is = absurd is
+  written : (stop : Stop) (run : Run) (to : Outlet) → RulesStop before after stop → WroteAtStop stop (text_of run.rules to) run.schedule.events to before after
+  written (Rules why) run to is = same to
+  written (ReadFault input.Rules) run to is = same to
+  written (ReadFault input.Capture) run to is = absurd is
+  written (ReadFault input.Script) run to is = absurd is
+  written OutOfMemory run to is = same to
+  written (Capture offset why) run to is = absurd is
+  written (Script line why) run to is = absurd is
+  written TooLong run to is = absurd is
+  written (WriteFault place) run to is = absurd is
+  written Usage run to is = absurd is
 
   judged : (stop : Stop) (bytes : List ℕ) → before.left input.Rules ≡ Some bytes → RulesStop before after stop → RulesJudged (Err stop) (rules_of bytes)
   judged (Rules why) bytes read is = subst (λ (left : Option (List ℕ)). IfSome left (λ bs. rules_of bs ≡ Err why)) read is
@@ -268,7 +306,7 @@ pub Replays-run : (rules : RuleSet) (result : Result Summary Stop) (before mid a
     → IfErr result (λ stop. RunStops stop (λ _. ⊥) (IsUnread mid after) (schedule_told EVENTS_MAX mid) mid after)
     → OnlyRuns mid after → Replays result before after
 Replays-run rules result before mid after read few taken serves because only = record {
-  serves = λ run told. Serves-between result run before mid after after unwritten (λ to apart. refl) (serves run (run_of_taken rules before mid run taken capture script told));
+  serves = λ run told. Serves-between result run before mid after after unwritten (λ to apart. refl) (capture, script) (refl, refl) (serves run (run_of_taken rules before mid run taken capture script told));
   rules = λ bytes is. judged result bytes because (sound bytes is);
   stop = by_result result because;
   complete = λ run bytes told whole is fine none. replay_completes result before after run bytes (by_result result because) told whole is fine none;
@@ -340,7 +378,8 @@ none_earlier before mid after only none = record {
 -- a fault line moves nothing of what a replay promises
 pub Replays-told : (result : Result Summary Stop) (before mid after : Told) → Replays result before mid → OnlyWrites outlet.Faults mid after → Replays result before after
 Replays-told result before mid after replays only = record {
-  serves = λ run told. Serves-between result run before before mid after (λ to. refl) (λ to apart. only.outlets to apart) (replays.serves run told);
+  serves = λ run told. Serves-between result run before before mid after (λ to. refl) (λ to apart. only.outlets to apart)
+      (refl, refl) (only.inputs input.Capture (λ e. e), only.inputs input.Script (λ e. e)) (replays.serves run told);
   rules = replays.rules;
   stop = by_result result replays.stop;
   complete = λ run bytes told whole read sound none. replays.complete run bytes told whole read sound (none_earlier before mid after only none);

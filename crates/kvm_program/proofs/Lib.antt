@@ -5,6 +5,7 @@ pub mod Orders
 pub mod Parts
 pub mod Serving
 pub mod Sizes
+pub mod TakenSince
 pub mod Taking
 pub mod Texts
 pub mod Told

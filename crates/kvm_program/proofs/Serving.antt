@@ -1,7 +1,7 @@
 -- A replay that goes on, ends or stops.
 use Rattle.std.proofs.Common.{◌≡◌, ℕ, ◌+◌, ◌≤◌, inl, inr, List, [], ◌∷◌, ◌++◌, length, Option, Some, None, option_map, IfSome, Result, refl, sym, ap, ◌∙◌, subst, arith}
 use Rattle.std.proofs.lemmas.Option.{same_Some}
-use Rattle.psd_base.specs.Desk.{IsAppendedPart, Rose, Told}
+use Rattle.psd_base.specs.Desk.{IsAppendedPart, ReadsSources, Rose, Told}
 use Rattle.psd_base.specs.declared.outlet.Input.{Input}
 use Rattle.psd_base.specs.Event.{HappensWithin, Seen}
 use Rattle.psd_base.specs.History.{onto}
@@ -12,18 +12,33 @@ use Rattle.psd_base.specs.declared.stop.Stop.{Stop}
 use Rattle.psd_base.specs.declared.stop.Stop.TheVariants.{Usage, Rules, Capture, Script, TooLong, ReadFault, WriteFault, OutOfMemory}
 use Rattle.psd_base.specs.declared.outlet.Input.TheVariants as input
 use Rattle.peripheral_filter.specs.declared.rule.RuleSet.{RuleSet}
-use Rattle.capture_reader.specs.Reader.{Reading, StopsBecause}
+use Rattle.capture_reader.specs.Reader.{EndsAreTrue, Reading, StopsBecause, lines_held, records_held, rest_told}
 use Rattle.capture_reader.specs.Schedule.{Schedule, in_front, over}
+use Rattle.capture_reader.specs.Taken.{FailsBehind, shortest, whole_lines, whole_records}
 use Rattle.switch_core.specs.StandsFor.{StandsFor}
 use Rattle.switch_core.specs.declared.switch.Switch.{Switch}
 use Rattle.kvm_program.specs.declared.tally.Tally.{Tally}
-use Rattle.kvm_program.specs.Outlets.{Grew, Wrote, WroteTo}
+use Rattle.kvm_program.specs.Outlets.{Grew, OnlyServes, OnlyWritesTexts, Wrote, WroteTo}
 use Rattle.kvm_program.specs.Texts.{text_after, text_of, step_text}
-use Rattle.kvm_program.specs.Progress.{Counts, Progress, Finished, IsFresh, PortsAboveStay, behind, WroteAtStop, ServingStops}
+use Rattle.kvm_program.specs.Progress.{Counts, Progress, Finished, IsBegun, IsFresh, NothingLeft, PortsAboveStay, TookSince, WroteTaken, behind, WroteAtStop, ServingStops}
 use Rattle.kvm_program.specs.Replay.{RunStops}
-use Rattle.kvm_program.proofs.Parts.{Grew-nothing, Grew-more, Grew-part, Grew-prefix, Wrote-stays}
+use Rattle.kvm_program.proofs.Parts.{Grew-nothing, Grew-more, Grew-part, Wrote-stays}
+use Rattle.kvm_program.proofs.TakenSince.{behind_is, EndsAreTrue-same, Took-wrote, TookSince-begun, TookSince-same}
 use Rattle.kvm_program.proofs.Texts.{text_after-step, text_after-onto}
 use Rattle.kvm_program.proofs.Transcripts.{text_at-above}
+
+-- the capture and the script are as they were
+abbrev pub SameSources : Told → Told → Type 0
+SameSources before after = (after.left input.Capture ≡ before.left input.Capture) × (after.left input.Script ≡ before.left input.Script)
+
+-- the sources are read, and then texts are written
+pub OnlyServes-event : (before mid after : Told) → ReadsSources before mid → OnlyWritesTexts mid after → OnlyServes before after
+OnlyServes-event before mid after reads writes = record {
+  inputs = λ which apart. writes.inputs which (λ e. e) ∙ reads.inputs which apart;
+  outlets = λ to apart. writes.outlets to apart ∙ reads.outlets to (λ e. e);
+  read_counts = λ which. omega (arith, reads.read_counts which, writes.read_counts which);
+  write_counts = λ to. omega (arith, reads.write_counts to, writes.write_counts to);
+}
 
 -- an event that comes is the newest of what was served
 behind-in_front : (past : List Seen) (event : Seen) (later : Option Schedule)
@@ -39,30 +54,33 @@ behind-nothing : (now : Option Schedule) → now ≡ option_map (behind []) now
 behind-nothing None = refl
 behind-nothing (Some schedule) = refl
 
--- the events of a history and those behind them are all events
-behind_is : (past : List Seen) (later : Schedule) → (onto (behind past later).events [] ≡ onto later.events past) × ((behind past later).stop ≡ later.stop)
-behind_is [] later = (refl, refl)
-behind_is (event ∷ past) later = behind_is past (in_front event later)
-
 -- the next event was served
-pub Progress-more : (rules : RuleSet) (coming now later : Option Schedule) (start desk desk_after : Told) (switch switch_later : Switch) (tally tally_later : Tally) (event : Seen)
-    (so_far : Progress rules coming now start desk switch tally)
-    → now ≡ option_map (in_front event) later
+pub Progress-more : (rules : RuleSet) (coming : Option Schedule) (start : Told) (reader reader_after : Reading) (desk desk_between desk_after : Told) (switch switch_later : Switch) (tally tally_later : Tally) (event : Seen)
+    (so_far : Progress rules coming start reader desk switch tally)
+    → rest_told reader desk ≡ option_map (in_front event) (rest_told reader_after desk_between)
+    → desk_after.left input.Capture ≡ desk_between.left input.Capture → desk_after.left input.Script ≡ desk_between.left input.Script
     → StandsFor rules switch_later (event ∷ so_far.past)
     → ((to : Outlet) → Grew (desk.sent to) (desk_after.sent to) (step_text rules to event so_far.past))
     → Counts rules tally_later (event ∷ so_far.past)
     → switch_later.served ≡ switch.served + 1
-    → Progress rules coming later start desk_after switch_later tally_later
-Progress-more rules coming now later start desk desk_after switch switch_later tally tally_later event so_far next stands wrote counted served =
+    → reader_after.given ≡ Some event
+    → TookSince start desk_between reader_after (event ∷ so_far.past)
+    → EndsAreTrue reader_after desk_between
+    → Progress rules coming start reader_after desk_after switch_later tally_later
+Progress-more rules coming start reader reader_after desk desk_between desk_after switch switch_later tally tally_later event so_far next same_capture same_script stands wrote counted served given took ends =
     let past = so_far.past in
+    let same : rest_told reader_after desk_after ≡ rest_told reader_after desk_between = rw (same_capture, same_script) refl in
     record {
       past = event ∷ past;
       stands = stands;
-      whole = behind-step coming now later past event next so_far.whole;
+      whole = behind-step coming (rest_told reader desk) (rest_told reader_after desk_between) past event next so_far.whole ∙ ap (option_map (behind (event ∷ past))) (sym same);
       written = λ to. subst (λ (text : List ℕ). Grew (start.sent to) (desk_after.sent to) text) (sym (text_after-step rules to event past))
           (Grew-more (start.sent to) (desk.sent to) (desk_after.sent to) _ _ (so_far.written to) (wrote to));
       counted = counted;
       served = let one : length (event ∷ past) ≡ length past + 1 = omega arith in one ∙ (ap (λ (n : ℕ). n + 1) so_far.served ∙ sym served);
+      took = TookSince-same start desk_between desk_after reader_after (event ∷ past) same_capture same_script took;
+      given = given;
+      ends = EndsAreTrue-same desk_between desk_after reader_after same_capture same_script ends;
     }
 
 -- what was served and what follows is all that was to come
@@ -79,11 +97,11 @@ stop_is : (schedule : Schedule) (now : Option Schedule) (past : List Seen) (late
 stop_is schedule now past later whole is = ap (λ (s : Schedule). s.stop) (all_is schedule now past later whole is) ∙ (behind_is past later).1
 
 -- nothing is left: each port has all of its transcript
-pub Progress-over : (rules : RuleSet) (schedule : Schedule) (now : Option Schedule) (start desk : Told) (switch : Switch) (tally : Tally) (stop : Option Stop)
-    (so_far : Progress rules (Some schedule) now start desk switch tally)
-    → IfSome now (λ left. left ≡ over stop)
+pub Progress-over : (rules : RuleSet) (schedule : Schedule) (start : Told) (reader : Reading) (desk : Told) (switch : Switch) (tally : Tally) (stop : Option Stop)
+    (so_far : Progress rules (Some schedule) start reader desk switch tally)
+    → IfSome (rest_told reader desk) (λ left. left ≡ over stop)
     → (schedule.stop ≡ stop) × (onto schedule.events [] ≡ so_far.past)
-Progress-over rules schedule now start desk switch tally stop so_far over_now = by_now now so_far.whole over_now where
+Progress-over rules schedule start reader desk switch tally stop so_far over_now = by_now (rest_told reader desk) so_far.whole over_now where
   by_now : (now : Option Schedule) → Some schedule ≡ option_map (behind so_far.past) now → IfSome now (λ left. left ≡ over stop)
       → (schedule.stop ≡ stop) × (onto schedule.events [] ≡ so_far.past)
   by_now None whole is = absurd (cc)
@@ -92,26 +110,13 @@ Progress-over rules schedule now start desk switch tally stop so_far over_now = 
     history_is schedule (Some left) so_far.past left whole refl ∙ ap (λ (s : Schedule). onto s.events so_far.past) is,
   )
 
--- what was written so far is a part of all that was to be written
-pub Progress-part : (rules : RuleSet) (schedule : Schedule) (now : Option Schedule) (start desk : Told) (switch : Switch) (tally : Tally) (to : Outlet)
-    → Progress rules (Some schedule) now start desk switch tally
-    → IsAppendedPart (start.sent to) (desk.sent to) (text_of rules to schedule.events)
-Progress-part rules schedule now start desk switch tally to so_far = by_now now so_far.whole where
-  by_now : (now : Option Schedule) → Some schedule ≡ option_map (behind so_far.past) now
-      → IsAppendedPart (start.sent to) (desk.sent to) (text_of rules to schedule.events)
-  by_now None whole = absurd (cc)
-  by_now (Some left) whole =
-      let more = text_after-onto rules to left.events so_far.past in
-      let all = ap (text_after rules to) (history_is schedule (Some left) so_far.past left whole refl) ∙ more.1 in
-      subst (λ (text : List ℕ). IsAppendedPart (start.sent to) (desk.sent to) text) (sym all) (Grew-prefix _ _ _ more.0 (so_far.written to))
-
--- the same where what the next event gave was written in part
-pub Progress-broken : (rules : RuleSet) (schedule : Schedule) (now later : Option Schedule) (start desk desk_after : Told) (switch : Switch) (tally : Tally) (event : Seen) (to : Outlet)
-    (so_far : Progress rules (Some schedule) now start desk switch tally)
-    → now ≡ option_map (in_front event) later
+-- what was written so far, and a part of what the next event gave, is a part of all that was to be written
+pub Progress-broken : (rules : RuleSet) (schedule : Schedule) (later : Option Schedule) (start : Told) (reader : Reading) (desk desk_after : Told) (switch : Switch) (tally : Tally) (event : Seen) (to : Outlet)
+    (so_far : Progress rules (Some schedule) start reader desk switch tally)
+    → rest_told reader desk ≡ option_map (in_front event) later
     → IsAppendedPart (desk.sent to) (desk_after.sent to) (step_text rules to event so_far.past)
     → IsAppendedPart (start.sent to) (desk_after.sent to) (text_of rules to schedule.events)
-Progress-broken rules schedule now later start desk desk_after switch tally event to so_far next part = by_later later (behind-step (Some schedule) now later so_far.past event next so_far.whole) where
+Progress-broken rules schedule later start reader desk desk_after switch tally event to so_far next part = by_later later (behind-step (Some schedule) (rest_told reader desk) later so_far.past event next so_far.whole) where
   by_later : (later : Option Schedule) → Some schedule ≡ option_map (behind (event ∷ so_far.past)) later
       → IsAppendedPart (start.sent to) (desk_after.sent to) (text_of rules to schedule.events)
   by_later None whole = absurd (cc)
@@ -138,53 +143,88 @@ PortsAboveStay-then ports ports_now before mid after same one two = λ port abov
     two port (omega (arith, same, above)) ∙ one port above
 
 -- what an outlet got, where the reader stops
-pub WroteAtStop-advance : (rules : RuleSet) (stop : Stop) (reader : Reading) (schedule : Schedule) (now : Option Schedule) (start desk desk_after : Told) (switch : Switch) (tally : Tally) (to : Outlet)
-    → Progress rules (Some schedule) now start desk switch tally
+pub WroteAtStop-advance : (rules : RuleSet) (stop : Stop) (reader reader_after : Reading) (schedule : Schedule) (start desk desk_after : Told) (switch : Switch) (tally : Tally) (to : Outlet)
+    (so_far : Progress rules (Some schedule) start reader desk switch tally)
     → desk_after.sent to ≡ desk.sent to
-    → StopsBecause reader now desk desk_after stop
-    → WroteAtStop stop (text_of rules to schedule.events) (start.sent to) (desk_after.sent to)
-WroteAtStop-advance rules stop reader schedule now start desk desk_after switch tally to so_far same because = by_stop stop because where
-  all : (end : Option Stop) → IfSome now (λ left. left ≡ over end) → Grew (start.sent to) (desk_after.sent to) (text_of rules to schedule.events)
+    → StopsBecause reader_after (rest_told reader desk) desk desk_after stop
+    → FailsBehind reader.given stop
+    → TookSince start desk_after reader_after so_far.past
+    → WroteAtStop stop (text_of rules to) schedule.events to start desk_after
+WroteAtStop-advance rules stop reader reader_after schedule start desk desk_after switch tally to so_far same because behind_one took = by_stop stop because behind_one where
+  all : (end : Option Stop) → IfSome (rest_told reader desk) (λ left. left ≡ over end) → Grew (start.sent to) (desk_after.sent to) (text_of rules to schedule.events)
   all end is =
-      let over_now = Progress-over rules schedule now start desk switch tally end so_far is in
+      let over_now = Progress-over rules schedule start reader desk switch tally end so_far is in
       rw same (subst (λ (past : List Seen). Grew (start.sent to) (desk.sent to) (text_after rules to past)) (sym over_now.1) (so_far.written to))
 
-  part : IsAppendedPart (start.sent to) (desk_after.sent to) (text_of rules to schedule.events)
-  part = rw same (Progress-part rules schedule now start desk switch tally to so_far)
+  wrote : Grew (start.sent to) (desk_after.sent to) (text_after rules to so_far.past)
+  wrote = rw same (so_far.written to)
 
-  by_input : (which : Input) → StopsBecause reader now desk desk_after (ReadFault which) → WroteAtStop (ReadFault which) (text_of rules to schedule.events) (start.sent to) (desk_after.sent to)
-  by_input input.Capture is = part
-  by_input input.Script is = part
-  by_input input.Rules is = absurd is
+  by_input : (which : Input) → StopsBecause reader_after (rest_told reader desk) desk desk_after (ReadFault which) → FailsBehind reader.given (ReadFault which)
+      → WroteAtStop (ReadFault which) (text_of rules to) schedule.events to start desk_after
+  by_input input.Capture is from =
+      Took-wrote rules input.Capture whole_records (records_held reader_after.ports reader_after.capture) reader_after.capture.held.ended schedule (rest_told reader desk) so_far.past reader.given start desk_after to
+      so_far.whole so_far.given from took.capture is.1.0 is.1.1 wrote
+  by_input input.Script is from =
+      Took-wrote rules input.Script whole_lines (lines_held reader_after.script) reader_after.script.held.ended schedule (rest_told reader desk) so_far.past reader.given start desk_after to
+      so_far.whole so_far.given from took.script is.1.0 is.1.1 wrote
+  by_input input.Rules is from = absurd is
 
-  by_stop : (stop : Stop) → StopsBecause reader now desk desk_after stop → WroteAtStop stop (text_of rules to schedule.events) (start.sent to) (desk_after.sent to)
-  by_stop (Capture offset why) is = all (Some (Capture offset why)) is.1
-  by_stop (Script line why) is = all (Some (Script line why)) is.1
-  by_stop TooLong is = all (Some TooLong) is.1
-  by_stop (ReadFault which) is = by_input which is
-  by_stop Usage is = absurd is
-  by_stop (Rules why) is = absurd is
-  by_stop (WriteFault place) is = absurd is
-  by_stop OutOfMemory is = absurd is
+  by_stop : (stop : Stop) → StopsBecause reader_after (rest_told reader desk) desk desk_after stop → FailsBehind reader.given stop → WroteAtStop stop (text_of rules to) schedule.events to start desk_after
+  by_stop (Capture offset why) is from = all (Some (Capture offset why)) is.1
+  by_stop (Script line why) is from = all (Some (Script line why)) is.1
+  by_stop TooLong is from = all (Some TooLong) is.1
+  by_stop (ReadFault which) is from = by_input which is from
+  by_stop Usage is from = absurd is
+  by_stop (Rules why) is from = absurd is
+  by_stop (WriteFault place) is from = absurd is
+  by_stop OutOfMemory is from = absurd is
+
+-- what a read, a write or a stop leaves of that
+pub WroteAtStop-between : (stop : Stop) (text : List Seen → List ℕ) (events : List Seen) (to : Outlet) (before mid mid_after after : Told)
+    → mid.sent to ≡ before.sent to → after.sent to ≡ mid_after.sent to → SameSources before mid → SameSources mid_after after
+    → WroteAtStop stop text events to mid mid_after → WroteAtStop stop text events to before after
+WroteAtStop-between stop text events to before mid mid_after after same same_after sources sources_after wrote = by_stop stop wrote where
+  moved : (Holds : Option (List ℕ) → Option (List ℕ) → Type 0) → Holds (mid.sent to) (mid_after.sent to) → Holds (before.sent to) (after.sent to)
+  moved Holds holds = subst (λ (b : Option (List ℕ)). Holds b (after.sent to)) same (subst (λ (a : Option (List ℕ)). Holds (mid.sent to) a) (sym same_after) holds)
+
+  taken : (which : Input) (whole : List ℕ → ℕ) → mid.left which ≡ before.left which → after.left which ≡ mid_after.left which
+      → WroteTaken which whole text events to mid mid_after → WroteTaken which whole text events to before after
+  taken which whole left left_after is = record {
+    bytes = is.bytes;
+    left_is = sym left ∙ (is.left_is ∙ ap (option_map (λ rest. is.bytes ++ rest)) (sym left_after));
+    grew = moved (λ b a. Grew b a (text (shortest which (whole is.bytes) events))) is.grew;
+  }
+
+  by_stop : (stop : Stop) → WroteAtStop stop text events to mid mid_after → WroteAtStop stop text events to before after
+  by_stop (Capture offset why) is = moved (λ b a. Grew b a (text events)) is
+  by_stop (Script line why) is = moved (λ b a. Grew b a (text events)) is
+  by_stop TooLong is = moved (λ b a. Grew b a (text events)) is
+  by_stop (ReadFault input.Capture) is = taken input.Capture whole_records sources.0 sources_after.0 is
+  by_stop (ReadFault input.Script) is = taken input.Script whole_lines sources.1 sources_after.1 is
+  by_stop (ReadFault input.Rules) is = moved (λ b a. a ≡ b) is
+  by_stop (WriteFault place) is = moved (λ b a. IsAppendedPart b a (text events)) is
+  by_stop Usage is = moved (λ b a. a ≡ b) is
+  by_stop (Rules why) is = moved (λ b a. a ≡ b) is
+  by_stop OutOfMemory is = moved (λ b a. a ≡ b) is
 
 -- why the reader stops is why serving stops
-pub ServingStops-advance : (rules : RuleSet) (stop : Stop) (reader : Reading) (coming now : Option Schedule) (start desk desk_after : Told) (switch : Switch) (tally : Tally)
-    → Progress rules coming now start desk switch tally
-    → StopsBecause reader now desk desk_after stop
+pub ServingStops-advance : (rules : RuleSet) (stop : Stop) (reader reader_after : Reading) (coming : Option Schedule) (start desk desk_after : Told) (switch : Switch) (tally : Tally)
+    → Progress rules coming start reader desk switch tally
+    → StopsBecause reader_after (rest_told reader desk) desk desk_after stop
     → ServingStops stop coming desk desk_after
-ServingStops-advance rules stop reader coming now start desk desk_after switch tally so_far because = by_stop stop because where
-  ends : (end : Option Stop) → IfSome now (λ left. left ≡ over end) → IfSome coming (λ schedule. schedule.stop ≡ end)
+ServingStops-advance rules stop reader reader_after coming start desk desk_after switch tally so_far because = by_stop stop because where
+  ends : (end : Option Stop) → IfSome (rest_told reader desk) (λ left. left ≡ over end) → IfSome coming (λ schedule. schedule.stop ≡ end)
   ends end is = by_coming coming so_far where
-    by_coming : (coming : Option Schedule) → Progress rules coming now start desk switch tally → IfSome coming (λ schedule. schedule.stop ≡ end)
+    by_coming : (coming : Option Schedule) → Progress rules coming start reader desk switch tally → IfSome coming (λ schedule. schedule.stop ≡ end)
     by_coming None progress = tt
-    by_coming (Some schedule) progress = (Progress-over rules schedule now start desk switch tally end progress is).0
+    by_coming (Some schedule) progress = (Progress-over rules schedule start reader desk switch tally end progress is).0
 
-  by_input : (which : Input) → StopsBecause reader now desk desk_after (ReadFault which) → ServingStops (ReadFault which) coming desk desk_after
+  by_input : (which : Input) → StopsBecause reader_after (rest_told reader desk) desk desk_after (ReadFault which) → ServingStops (ReadFault which) coming desk desk_after
   by_input input.Capture is = ((λ e. absurd (cc)), is.0)
   by_input input.Script is = ((λ e. absurd (cc)), is.0)
   by_input input.Rules is = absurd is
 
-  by_stop : (stop : Stop) → StopsBecause reader now desk desk_after stop → ServingStops stop coming desk desk_after
+  by_stop : (stop : Stop) → StopsBecause reader_after (rest_told reader desk) desk desk_after stop → ServingStops stop coming desk desk_after
   by_stop (Capture offset why) is = ends (Some (Capture offset why)) is.1
   by_stop (Script line why) is = ends (Some (Script line why)) is.1
   by_stop TooLong is = ends (Some TooLong) is.1
@@ -230,19 +270,20 @@ length-onto [] past = omega arith
 length-onto (event ∷ events) past = let later = length-onto events (event ∷ past) in omega (arith, later)
 
 -- a replay to the end of its schedule
-pub Finished-over : (rules : RuleSet) (schedule : Schedule) (now : Option Schedule) (start desk desk_after : Told) (switch switch_after : Switch) (tally tally_after : Tally)
-    → Progress rules (Some schedule) now start desk switch tally
-    → IfSome now (λ left. left ≡ over None)
-    → ((to : Outlet) → desk_after.sent to ≡ desk.sent to) → switch_after ≡ switch → tally_after ≡ tally
+pub Finished-over : (rules : RuleSet) (schedule : Schedule) (start : Told) (reader : Reading) (desk desk_after : Told) (switch switch_after : Switch) (tally tally_after : Tally)
+    → Progress rules (Some schedule) start reader desk switch tally
+    → IfSome (rest_told reader desk) (λ left. left ≡ over None)
+    → ((to : Outlet) → desk_after.sent to ≡ desk.sent to) → switch_after ≡ switch → tally_after ≡ tally → NothingLeft desk_after
     → Finished rules schedule start desk_after switch_after tally_after
-Finished-over rules schedule now start desk desk_after switch switch_after tally tally_after so_far is same same_switch same_tally =
-    let end = Progress-over rules schedule now start desk switch tally None so_far is in
+Finished-over rules schedule start reader desk desk_after switch switch_after tally tally_after so_far is same same_switch same_tally nothing_left =
+    let end = Progress-over rules schedule start reader desk switch tally None so_far is in
     record {
       whole = end.0;
       written = λ to. rw same (subst (λ (past : List Seen). Grew (start.sent to) (desk.sent to) (text_after rules to past)) (sym end.1) (so_far.written to));
       counted = subst (λ (past : List Seen). Counts rules tally_after past) (sym end.1) (subst (λ (t : Tally). Counts rules t so_far.past) (sym same_tally) so_far.counted);
       served = let nothing : length schedule.events ≡ length so_far.past = omega (arith, length-onto schedule.events [], ap length end.1) in
           rw same_switch (sym so_far.served ∙ sym nothing);
+      left = nothing_left;
     }
 
 -- what serves with a new switch begins
@@ -255,17 +296,23 @@ IsFresh-new rules switch served_by tally stands unserved same empty = record {
 }
 
 -- a replay that begins
-pub Progress-start : (rules : RuleSet) (coming now : Option Schedule) (start desk : Told) (switch : Switch) (tally : Tally)
-    → IsFresh rules switch tally → now ≡ coming → ((to : Outlet) → desk.sent to ≡ start.sent to)
-    → Progress rules coming now start desk switch tally
-Progress-start rules coming now start desk switch tally fresh same unsent = record {
-  past = [];
-  stands = fresh.stands;
-  whole = sym same ∙ behind-nothing now;
-  written = λ to. Grew-empty rules (start.sent to) (desk.sent to) to (unsent to);
-  counted = fresh.empty;
-  served = sym fresh.unserved;
-}
+pub Progress-start : (rules : RuleSet) (start : Told) (reader : Reading) (desk desk_after : Told) (switch : Switch) (tally : Tally)
+    → IsFresh rules switch tally → IsBegun start reader desk → ((to : Outlet) → desk_after.sent to ≡ desk.sent to)
+    → desk_after.left input.Capture ≡ desk.left input.Capture → desk_after.left input.Script ≡ desk.left input.Script
+    → Progress rules (rest_told reader desk) start reader desk_after switch tally
+Progress-start rules start reader desk desk_after switch tally fresh begun unsent same_capture same_script =
+    let same : rest_told reader desk ≡ rest_told reader desk_after = rw (same_capture, same_script) refl in
+    record {
+      past = [];
+      stands = fresh.stands;
+      whole = same ∙ behind-nothing (rest_told reader desk_after);
+      written = λ to. Grew-empty rules (start.sent to) (desk_after.sent to) to (unsent to ∙ begun.unsent to);
+      counted = fresh.empty;
+      served = sym fresh.unserved;
+      took = TookSince-same start desk desk_after reader [] same_capture same_script (TookSince-begun start desk reader begun.none_given begun.took);
+      given = begun.none_given;
+      ends = EndsAreTrue-same desk desk_after reader same_capture same_script begun.ends;
+    }
 
 -- why serving stops is why a run stops
 pub RunStops-serving : (stop : Stop) (refused : RulesFault → Type 0) (unread : Type 0) (coming : Option Schedule) (first before after : Told)

@@ -1,6 +1,6 @@
 -- The sizes of all transcripts as a list.
 use Rattle.std.proofs.Common.{◌≡◌, ℕ, suc, zero, ◌+◌, ◌<◌, List, [], ◌∷◌, length, map, slice_index, subst, refl, arith}
-use Rattle.kvm_program.specs.Report.{numbers_from}
+use Rattle.selector.specs.Panel.{numbers_from}
 
 -- a list is told by its elements
 pub map-numbers_from : (sizes : List ℕ) (size_of : ℕ → ℕ) (start count : ℕ) → length sizes ≡ count

@@ -1,5 +1,5 @@
 -- Transcripts as events come.
-use Rattle.std.proofs.Common.{◌≡◌, ℕ, ◌<◌, ◌≤◌, List, [], ◌∷◌, ◌++◌, refl, sym, ap, ◌∙◌, inl, inr, arith}
+use Rattle.std.proofs.Common.{◌≡◌, ℕ, ◌<◌, List, [], ◌∷◌, ◌++◌, refl, sym, ap, ◌∙◌, inl, inr, arith}
 use Rattle.std.proofs.lemmas.Bool.Decides.{eqb_tells}
 use Rattle.std.proofs.lemmas.Grind.{flat_map-append}
 use Rattle.std.proofs.lemmas.List.{append-nil}
@@ -10,7 +10,7 @@ use Rattle.psd_base.specs.Event.{Seen, Happening, HappensWithin, PortActs, AtFro
 use Rattle.peripheral_filter.specs.declared.rule.RuleSet.{RuleSet}
 use Rattle.port_transcript.specs.PortLine.{line_text}
 use Rattle.switch_core.specs.View.{view}
-use Rattle.switch_core.specs.OnePort.{one_port_lines, line_of}
+use Rattle.km_port.specs.OnePort.{one_port_lines, line_of}
 use Rattle.switch_core.specs.Lines.{line_at}
 use Rattle.switch_core.proofs.Views.{one_port_lines-front}
 use Rattle.kvm_program.specs.Transcript.{lines_text, transcript_after, text_at}

@@ -1,6 +1,7 @@
 pub mod Check
 pub mod Command
 pub mod Console
+pub mod Delivered
 pub mod Log
 pub mod OneWay
 pub mod Outlets

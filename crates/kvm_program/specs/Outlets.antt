@@ -1,7 +1,6 @@
 -- What writing does to the outlets.
 use Rattle.std.specs.Prelude.{◌≡◌, ◌≢◌, ◌⊎◌, ℕ, List, ◌++◌, Option, option_map, Result, Ok, Err}
 use Rattle.psd_base.specs.Desk.{IsAppendedPart, IsSource, NoInput, NoOutlet, Told, Touches, WriteFailed}
-use Rattle.psd_base.specs.declared.outlet.Input.{Input}
 use Rattle.psd_base.specs.declared.outlet.Outlet.{Outlet}
 use Rattle.psd_base.specs.declared.outlet.Outlet.TheVariants as outlet
 use Rattle.psd_base.specs.declared.stop.Stop.{Stop}

@@ -1,5 +1,5 @@
 -- What a replay promises.
-use Rattle.std.specs.Prelude.{◌≡◌, ◌≢◌, ◌⊎◌, ℕ, List, Option, Some, None, IfSome, IfOk, IfErr, IsOk, Result, Ok, Err}
+use Rattle.std.specs.Prelude.{◌≡◌, ◌≢◌, ◌⊎◌, ℕ, List, Option, Some, None, IfSome, IfOk, IfErr, IsOk, OnOk, Result, Ok, Err}
 use Rattle.psd_base.specs.Desk.{IsAppendedPart, IsSource, ReadFailed, Told, Touches, WriteFailed}
 use Rattle.psd_base.specs.declared.event.TheConstants.{EVENTS_MAX}
 use Rattle.psd_base.specs.declared.outlet.Input.{Input}
@@ -10,23 +10,25 @@ use Rattle.psd_base.specs.declared.stop.RulesFault.{RulesFault}
 use Rattle.psd_base.specs.declared.stop.Stop.{Stop}
 use Rattle.psd_base.specs.declared.stop.Stop.TheVariants.{Usage, Rules, Capture, Script, TooLong, ReadFault, WriteFault, OutOfMemory}
 use Rattle.psd_base.specs.declared.summary.Summary.{Summary}
+use Rattle.psd_base.specs.Event.{Seen}
 use Rattle.admin_rules.specs.RuleFile.{Lists, rules_of}
 use Rattle.capture_reader.specs.Merge.{schedule_told}
 use Rattle.capture_reader.specs.Schedule.{Schedule}
 use Rattle.port_transcript.specs.StopLine.{stop_text}
 use Rattle.kvm_program.specs.Console.{console_of}
+use Rattle.kvm_program.specs.Delivered.{Delivers}
 use Rattle.kvm_program.specs.Log.{log_of}
 use Rattle.kvm_program.specs.Outlets.{AndFaults, Grew}
-use Rattle.kvm_program.specs.Progress.{PortsAboveStay, WroteAtStop}
+use Rattle.kvm_program.specs.Progress.{NothingLeft, PortsAboveStay, WroteAtStop}
 use Rattle.kvm_program.specs.Report.{report_text, summary_of}
 use Rattle.kvm_program.specs.Rules.{FewRulesTaken, RulesAreFaulty}
 use Rattle.kvm_program.specs.Run.{Run, run_told}
 use Rattle.kvm_program.specs.Transcript.{transcript_of}
 
--- A port, the console, and the log get all of their text, or a part of it, or nothing, by how the run ends.
-abbrev pub TextWritten : Result Summary Stop → List ℕ → Option (List ℕ) → Option (List ℕ) → Type 0
-TextWritten (Ok summary) text before after = Grew before after text
-TextWritten (Err stop) text before after = WroteAtStop stop text before after
+-- A port, the console, and the log get all of their text over the events, or a part of it, or nothing, by how the run ends.
+abbrev pub TextWritten : Result Summary Stop → (List Seen → List ℕ) → List Seen → Outlet → Told → Told → Type 0
+TextWritten (Ok summary) text events to before after = Grew (before.sent to) (after.sent to) (text events)
+TextWritten (Err stop) text events to before after = WroteAtStop stop text events to before after
 
 -- The report is written at the end of a run alone.
 abbrev pub ReportAtStop : Stop → List ℕ → Option (List ℕ) → Option (List ℕ) → Type 0
@@ -40,15 +42,19 @@ ReportWritten (Err stop) text before after = ReportAtStop stop text before after
 -- What a run over these events writes and answers.
 pub record Serves (result : Result Summary Stop) (run : Run) (before after : Told) : Type 0 where
   -- each port's transcript is that of a one-port switch over the port's own view, all of it or a part by how the run ends
-  pub ports : (port : ℕ) → TextWritten result (transcript_of run.rules port run.schedule.events) (before.sent (outlet.Port port)) (after.sent (outlet.Port port))
+  pub ports : (port : ℕ) → TextWritten result (transcript_of run.rules port) run.schedule.events (outlet.Port port) before after
+  -- in each span of its view a port's computer reads what was typed and moved, in order and whole, and its release once it is left
+  pub delivered : (port : ℕ) → Delivers run.rules port run.schedule.events
   -- nothing is written to a port that the capture doesn't have
   pub above : PortsAboveStay run.ports before after
   -- the console has what its peripherals are told, all of it or a part in the same way
-  pub console : TextWritten result (console_of run.rules run.schedule.events) (before.sent outlet.Console) (after.sent outlet.Console)
+  pub console : TextWritten result (console_of run.rules) run.schedule.events outlet.Console before after
   -- the log tells of the self-test, of the peripherals and of the selection, all of it or a part in the same way
-  pub log : TextWritten result (log_of run.rules run.schedule.events) (before.sent outlet.Log) (after.sent outlet.Log)
+  pub log : TextWritten result (log_of run.rules) run.schedule.events outlet.Log before after
   -- the report tells of the whole run, and is written at its end alone
   pub report : ReportWritten result (report_text (summary_of run.rules run.ports run.schedule.events)) (before.sent outlet.Report) (after.sent outlet.Report)
+  -- where it comes to its end, all of the capture and of the script was taken
+  pub taken : OnOk result (NothingLeft after)
   pub ok : IfOk result (λ summary. (run.schedule.stop ≡ None) × (summary ≡ summary_of run.rules run.ports run.schedule.events))
 
 -- Why a replay stops: its rules are refused, its schedule ends so, a read failed, a write failed that isn't that of a fault line, or there

@@ -1,18 +1,14 @@
 -- What a run reports.
-use Rattle.std.specs.Prelude.{ℕ, zero, suc, ◌+◌, List, [], ◌∷◌, ◌++◌, codes, length, map, take}
+use Rattle.std.specs.Prelude.{ℕ, ◌+◌, List, [], ◌∷◌, ◌++◌, codes, length, map, take}
 use Rattle.std.specs.Fmt.{decimal}
 use Rattle.psd_base.specs.Event.{Seen}
 use Rattle.psd_base.specs.declared.port.TheConstants.{MAX_PORTS}
 use Rattle.psd_base.specs.declared.summary.Summary.{Summary}
 use Rattle.psd_base.specs.History.{onto}
+use Rattle.selector.specs.Panel.{numbers_from}
 use Rattle.peripheral_filter.specs.declared.rule.RuleSet.{RuleSet}
 use Rattle.kvm_program.specs.Log.{is_leave, is_refusal, noted}
 use Rattle.kvm_program.specs.Transcript.{transcript_of}
-
--- so many numbers from one on
-abbrev pub numbers_from : ℕ → ℕ → List ℕ
-numbers_from start zero = []
-numbers_from start (suc count) = start ∷ numbers_from (start + 1) count
 
 -- the bytes of each port's transcript
 unfoldable pub transcript_sizes : RuleSet → List Seen → List ℕ

@@ -14,6 +14,10 @@ use std::{env, fs, io};
 
 mod check;
 mod command;
+#[cfg(test)]
+mod consoles;
+#[cfg(test)]
+mod failed_reads;
 mod laws;
 mod open;
 mod outlets;

@@ -24,6 +24,7 @@ use psd_base::stop::Stop;
 use switch_core::Turn;
 
 /// Writes to one outlet.
+#[inline(always)]
 pub fn send<D: Desk>(desk: &mut D, to: &Outlet, bytes: &[u8]) -> Result<(), Stop>
     ensures wrote { WroteTo to.now result (D.told desk.old) (D.told desk.new) bytes.now }
     ensures stop { IfErr result (λ stop. stop ≡ Stop.WriteFault to.now) }
@@ -38,6 +39,7 @@ pub fn send<D: Desk>(desk: &mut D, to: &Outlet, bytes: &[u8]) -> Result<(), Stop
 
 /// Writes what one event gave: the line of a turn to its port's transcript, if there is one, then the orders to the
 /// console, and then the notes to the log. The text is room for them.
+#[inline(always)]
 pub fn write_turn<D: Desk>(
     desk: &mut D,
     tick: Tick,
@@ -66,6 +68,7 @@ pub fn write_turn<D: Desk>(
 }
 
 /// Writes the line of a turn to its port's transcript, if there is one.
+#[inline(always)]
 fn write_line<D: Desk>(
     desk: &mut D,
     line: &Option<(PortId, Line)>,
@@ -94,6 +97,7 @@ fn write_line<D: Desk>(
 }
 
 /// Writes to one port's transcript.
+#[inline(always)]
 fn send_port<D: Desk>(desk: &mut D, port: PortId, bytes: &[u8]) -> Result<(), Stop>
     ensures wrote { WroteTo (Outlet.Port port) result (D.told desk.old) (D.told desk.new) bytes.now }
     ensures apart { (other : ℕ) → other ≢ port → (D.told desk.new).sent (Outlet.Port other)
@@ -105,6 +109,7 @@ fn send_port<D: Desk>(desk: &mut D, port: PortId, bytes: &[u8]) -> Result<(), St
 }
 
 /// Writes a text to one port's transcript, and counts its bytes.
+#[inline(always)]
 fn write_text<D: Desk>(
     desk: &mut D,
     port: PortId,
@@ -129,6 +134,7 @@ fn write_text<D: Desk>(
 }
 
 /// Writes the orders of a turn to the console, and then its notes to the log.
+#[inline(always)]
 fn write_console<D: Desk>(
     desk: &mut D,
     tick: Tick,
@@ -156,6 +162,7 @@ fn write_console<D: Desk>(
 }
 
 /// Writes the orders of an event to the console, if there are some.
+#[inline(always)]
 fn write_orders<D: Desk>(
     desk: &mut D,
     tick: Tick,

@@ -3,7 +3,7 @@ ghost use Rattle.std.specs.Prelude.{◌≡◌, ◌≢◌, ℕ, ◌+◌, ◌*◌,
 ghost use Rattle.psd_base.specs.Port.{IsPort};
 ghost use Rattle.psd_base.specs.Desk.{Told};
 ghost use Rattle.peripheral_filter.specs.declared.rule.RuleSet.{RuleSet};
-ghost use Rattle.capture_reader.specs.Reader.{rest_told};
+ghost use Rattle.capture_reader.specs.Reader.{EndsAreTrue, rest_told};
 ghost use Rattle.switch_core.specs.StandsFor.{StandsFor, port_total};
 ghost use Rattle.switch_core.specs.Gives.{gives_at, gives_of};
 ghost use Rattle.psd_base.specs.History.{onto};
@@ -36,7 +36,7 @@ impl Server {
     ghost use Rattle.psd_base.specs.Event.{Seen, seen, happening_of, HappensWithin};
     ghost use Rattle.std.specs.Prelude.{Some, None, Ok, true, false};
     ghost use Rattle.capture_reader.specs.Schedule.{Schedule, over};
-    ghost use Rattle.kvm_program.specs.Progress.{Counts, ProgressOf, Finished, HasRoom, IsReady, PortsAboveStay, WroteAtStop, ServingStops};
+    ghost use Rattle.kvm_program.specs.Progress.{Counts, Progress, Finished, HasRoom, IsReady, NothingLeft, PortsAboveStay, WroteAtStop, ServingStops};
     ghost use Rattle.kvm_program.specs.Report.{summary_of};
 
     /// What serves with this switch, before any event.
@@ -107,22 +107,24 @@ impl Server {
         ensures same { OnOk result ((reader.new.limit ≡ reader.old.limit)
             × (reader.new.ports ≡ reader.old.ports)) }
         ensures going { result ≡ Ok true → (rules : RuleSet) (coming : Option Schedule) (start : Told) →
-            ProgressOf rules coming start reader.old (D.told desk.old) self.old.switch self.old.tally →
-            ProgressOf rules coming start reader.new (D.told desk.new) self.new.switch self.new.tally }
+            Progress rules coming start reader.old (D.told desk.old) self.old.switch self.old.tally →
+            Progress rules coming start reader.new (D.told desk.new) self.new.switch self.new.tally }
         ensures ended { result ≡ Ok false → IfSome (rest_told reader.old (D.told desk.old)) (λ left. left
             ≡ over None) }
+        ensures drained { result ≡ Ok false → EndsAreTrue reader.old (D.told desk.old)
+            → NothingLeft (D.told desk.new) }
         ensures idle { result ≡ Ok false → ((outlet : Outlet)
             → (D.told desk.new).sent outlet ≡ (D.told desk.old).sent outlet)
             × (self.new.switch ≡ self.old.switch) × (self.new.tally ≡ self.old.tally) }
         ensures written { IfErr result (λ stop. (rules : RuleSet) (schedule : Schedule) (start : Told)
-            (to : Outlet) → ProgressOf rules (Some schedule) start reader.old (D.told desk.old)
-            self.old.switch self.old.tally → WroteAtStop stop (text_of rules to schedule.events)
-            (start.sent to) ((D.told desk.new).sent to)) }
+            (to : Outlet) → Progress rules (Some schedule) start reader.old (D.told desk.old)
+            self.old.switch self.old.tally → WroteAtStop stop (text_of rules to) schedule.events to
+            start (D.told desk.new)) }
         ensures above { (rules : RuleSet) (coming : Option Schedule) (start : Told) →
-            ProgressOf rules coming start reader.old (D.told desk.old) self.old.switch self.old.tally →
+            Progress rules coming start reader.old (D.told desk.old) self.old.switch self.old.tally →
             PortsAboveStay reader.old.ports (D.told desk.old) (D.told desk.new) }
         ensures stop { IfErr result (λ stop. (rules : RuleSet) (coming : Option Schedule) (start : Told) →
-            ProgressOf rules coming start reader.old (D.told desk.old) self.old.switch self.old.tally →
+            Progress rules coming start reader.old (D.told desk.old) self.old.switch self.old.tally →
             ServingStops stop coming (D.told desk.old) (D.told desk.new)) }
         ensures only { OnlyServes (D.told desk.old) (D.told desk.new) }
     {
@@ -138,18 +140,18 @@ impl Server {
     pub fn serve_all<D: Desk>(&mut self, reader: &mut Reader, desk: &mut D) -> Result<(), Stop>
         requires { IsReady reader.old self.old.switch self.old.tally }
         ensures finished { OnOk result ((rules : RuleSet) (schedule : Schedule) (start : Told) →
-            ProgressOf rules (Some schedule) start reader.old (D.told desk.old)
+            Progress rules (Some schedule) start reader.old (D.told desk.old)
             self.old.switch self.old.tally →
             Finished rules schedule start (D.told desk.new) self.new.switch self.new.tally) }
         ensures written { IfErr result (λ stop. (rules : RuleSet) (schedule : Schedule) (start : Told)
-            (to : Outlet) → ProgressOf rules (Some schedule) start reader.old (D.told desk.old)
-            self.old.switch self.old.tally → WroteAtStop stop (text_of rules to schedule.events)
-            (start.sent to) ((D.told desk.new).sent to)) }
+            (to : Outlet) → Progress rules (Some schedule) start reader.old (D.told desk.old)
+            self.old.switch self.old.tally → WroteAtStop stop (text_of rules to) schedule.events to
+            start (D.told desk.new)) }
         ensures above { (rules : RuleSet) (coming : Option Schedule) (start : Told) →
-            ProgressOf rules coming start reader.old (D.told desk.old) self.old.switch self.old.tally →
+            Progress rules coming start reader.old (D.told desk.old) self.old.switch self.old.tally →
             PortsAboveStay reader.old.ports (D.told desk.old) (D.told desk.new) }
         ensures stop { IfErr result (λ stop. (rules : RuleSet) (coming : Option Schedule) (start : Told) →
-            ProgressOf rules coming start reader.old (D.told desk.old) self.old.switch self.old.tally →
+            Progress rules coming start reader.old (D.told desk.old) self.old.switch self.old.tally →
             ServingStops stop coming (D.told desk.old) (D.told desk.new)) }
         ensures only { OnlyServes (D.told desk.old) (D.told desk.new) }
     {

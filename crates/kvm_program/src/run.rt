@@ -1,6 +1,6 @@
 //! A whole run: from the command's words to the report.
 ghost use Rattle.std.specs.Prelude.{◌≡◌, ◌≢◌, ℕ, ◌≤◌, [], Some, None, Ok, Err, IfSome, IfOk, IfErr, OnOk, OnErr};
-ghost use Rattle.psd_base.specs.Desk.{NoInput, OnlyWrites, Touches, WriteFailed};
+ghost use Rattle.psd_base.specs.Desk.{NoInput, OnlyWrites, Told, Touches, WriteFailed};
 ghost use Rattle.psd_base.specs.Port.{IsPort};
 ghost use Rattle.peripheral_filter.specs.declared.rule.RuleSet.{RuleSet};
 ghost use Rattle.capture_reader.specs.Reader.{rest_told};
@@ -9,7 +9,7 @@ ghost use Rattle.capture_reader.specs.Schedule.{Schedule};
 ghost use Rattle.kvm_program.specs.Check.{Checks};
 ghost use Rattle.kvm_program.specs.Command.{words_of};
 ghost use Rattle.kvm_program.specs.Outlets.{OnlyServes, WroteTo};
-ghost use Rattle.kvm_program.specs.Progress.{Finished, IsFresh, IsReady, PortsAboveStay, WroteAtStop};
+ghost use Rattle.kvm_program.specs.Progress.{Finished, IsBegun, IsFresh, IsReady, PortsAboveStay, WroteAtStop};
 ghost use Rattle.kvm_program.specs.Replay.{FaultWritten, FaultsWritten, IsUnread, OnlyRuns, Replays, RunStops, Serves};
 ghost use Rattle.kvm_program.specs.Report.{report_text};
 ghost use Rattle.kvm_program.specs.Run.{Run, run_under};
@@ -35,23 +35,23 @@ use psd_base::words::Words;
 use std::alloc::Global;
 use switch_core::Switch;
 
-/// Serves all events.
+/// Serves all events. The reader was made of what the desk had left at the start of the run.
 fn serve_events<D: Desk>(desk: &mut D, reader: &mut Reader, server: &mut Server) -> Result<(), Stop>
     requires { IsReady reader.old server.old.switch server.old.tally }
-    ensures finished { OnOk result ((rules : RuleSet) (schedule : Schedule)
-        → IsFresh rules server.old.switch server.old.tally
+    ensures finished { OnOk result ((rules : RuleSet) (schedule : Schedule) (start : Told)
+        → IsFresh rules server.old.switch server.old.tally → IsBegun start reader.old (D.told desk.old)
         → rest_told reader.old (D.told desk.old) ≡ Some schedule
-        → Finished rules schedule (D.told desk.old) (D.told desk.new) server.new.switch server.new.tally) }
-    ensures written { IfErr result (λ stop. (rules : RuleSet) (schedule : Schedule) (to : Outlet)
-        → IsFresh rules server.old.switch server.old.tally
+        → Finished rules schedule start (D.told desk.new) server.new.switch server.new.tally) }
+    ensures written { IfErr result (λ stop. (rules : RuleSet) (schedule : Schedule) (start : Told) (to : Outlet)
+        → IsFresh rules server.old.switch server.old.tally → IsBegun start reader.old (D.told desk.old)
         → rest_told reader.old (D.told desk.old) ≡ Some schedule
-        → WroteAtStop stop (text_of rules to schedule.events) ((D.told desk.old).sent to)
-        ((D.told desk.new).sent to)) }
-    ensures above { (rules : RuleSet) → IsFresh rules server.old.switch server.old.tally
-        → PortsAboveStay reader.old.ports (D.told desk.old) (D.told desk.new) }
-    ensures stop { IfErr result (λ stop. (rules : RuleSet)
-        → IsFresh rules server.old.switch server.old.tally → RunStops stop
-        (λ _. ⊥) ⊥ (rest_told reader.old (D.told desk.old)) (D.told desk.old) (D.told desk.new)) }
+        → WroteAtStop stop (text_of rules to) schedule.events to start (D.told desk.new)) }
+    ensures above { (rules : RuleSet) (start : Told) → IsFresh rules server.old.switch server.old.tally
+        → IsBegun start reader.old (D.told desk.old)
+        → PortsAboveStay reader.old.ports start (D.told desk.new) }
+    ensures stop { IfErr result (λ stop. (rules : RuleSet) (start : Told)
+        → IsFresh rules server.old.switch server.old.tally → IsBegun start reader.old (D.told desk.old)
+        → RunStops stop (λ _. ⊥) ⊥ (rest_told reader.old (D.told desk.old)) (D.told desk.old) (D.told desk.new)) }
     ensures only { OnlyServes (D.told desk.old) (D.told desk.new) }
 {
     open_outlets(desk, reader.ports())?;
@@ -71,17 +71,17 @@ fn write_report<D: Desk>(desk: &mut D, summary: &Summary) -> Result<(), Stop>
     send(desk, &Outlet::Report, text.as_slice())
 }
 
-/// Serves all events, and writes the report.
+/// Serves all events, and writes the report. The reader was made of what the desk had left at the start of the run.
 fn run<D: Desk>(desk: &mut D, reader: &mut Reader, server: &mut Server) -> Result<Summary, Stop>
     requires { IsReady reader.old server.old.switch server.old.tally }
-    ensures serves { (rules : RuleSet) (schedule : Schedule)
-        → IsFresh rules server.old.switch server.old.tally
+    ensures serves { (rules : RuleSet) (schedule : Schedule) (start : Told)
+        → IsFresh rules server.old.switch server.old.tally → IsBegun start reader.old (D.told desk.old)
         → rest_told reader.old (D.told desk.old) ≡ Some schedule
         → Serves result (record { rules = rules; ports = reader.old.ports; schedule = schedule })
-        (D.told desk.old) (D.told desk.new) }
-    ensures stop { IfErr result (λ stop. (rules : RuleSet)
-        → IsFresh rules server.old.switch server.old.tally → RunStops stop
-        (λ _. ⊥) ⊥ (rest_told reader.old (D.told desk.old)) (D.told desk.old) (D.told desk.new)) }
+        start (D.told desk.new) }
+    ensures stop { IfErr result (λ stop. (rules : RuleSet) (start : Told)
+        → IsFresh rules server.old.switch server.old.tally → IsBegun start reader.old (D.told desk.old)
+        → RunStops stop (λ _. ⊥) ⊥ (rest_told reader.old (D.told desk.old)) (D.told desk.old) (D.told desk.new)) }
     ensures only { OnlyRuns (D.told desk.old) (D.told desk.new) }
 {
     let ports = reader.ports();
@@ -140,8 +140,10 @@ fn obey<D: Desk>(alloc: Global, words: &Words, desk: &mut D) -> Result<Summary, 
 /// `replay` judges the rules, serves the events of the capture and of the button script in the order of their ticks, and
 /// writes each computer's transcript, what the peripherals at the console are told, and the log. Whatever is replayed, a
 /// computer's transcript is what a switch with one port answers to that computer's own acts, the results of the self-test
-/// and the moments at which it is selected; a replay that stops early writes a part of it, from its front. `check` judges
-/// the rules alone.
+/// and the moments at which it is selected; a replay that stops early writes a part of it, from its front. After a read of
+/// the capture or the script that failed, that part, and those of console and log, are exactly their texts over the shortest
+/// part of the events that holds every whole record, or line with its line feed, among the bytes that were taken of that
+/// input. `check` judges the rules alone.
 pub fn kvm<D: Desk>(alloc: Global, words: &Words, desk: &mut D) -> Result<Summary, Stop>
     // What each command promises.
     ensures replay { words.now ≡ words_of Command.Replay

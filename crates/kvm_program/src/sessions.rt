@@ -505,7 +505,7 @@ report port 2 0
 ";
 
 /// The value of a hexadecimal digit.
-fn digit(byte: u8) -> u8
+pub(crate) fn digit(byte: u8) -> u8
     ensures { result < 16 }
 {
     match byte {
@@ -516,7 +516,7 @@ fn digit(byte: u8) -> u8
 }
 
 /// What the lines of a run say that begin with this word, each with a line feed behind it.
-fn lines_of(alloc: Global, run: &str, word: &str) -> Result<Vec<u8>, AllocError> {
+pub fn lines_of(alloc: Global, run: &str, word: &str) -> Result<Vec<u8>, AllocError> {
     let mut bytes = Vec::new(alloc);
     for line in run.lines() {
         match line.split_once(" ") {
@@ -534,12 +534,12 @@ fn lines_of(alloc: Global, run: &str, word: &str) -> Result<Vec<u8>, AllocError>
     Ok(bytes)
 }
 
-/// The bytes of a run's capture.
-fn capture_of(alloc: Global, run: &str) -> Result<Vec<u8>, AllocError> {
+/// The bytes that a run's lines give in hexadecimal that begin with this word.
+pub fn bytes_of(alloc: Global, run: &str, word: &str) -> Result<Vec<u8>, AllocError> {
     let mut bytes = Vec::new(alloc);
     for line in run.lines() {
         match line.split_once(" ") {
-            Some(("capture", digits)) => {
+            Some((first, digits)) if first == word => {
                 for pair in digits.as_bytes().chunks(2) {
                     if let [high, low] = pair {
                         bytes.push(digit(*high) * 16 + digit(*low))?;
@@ -556,7 +556,7 @@ fn capture_of(alloc: Global, run: &str) -> Result<Vec<u8>, AllocError> {
 fn replayed(alloc: Global, run: &str) -> Result<MemoryDesk, Fail> {
     let rules = lines_of(alloc, run, "rules")?;
     let script = lines_of(alloc, run, "script")?;
-    let capture = capture_of(alloc, run)?;
+    let capture = bytes_of(alloc, run, "capture")?;
     let mut desk = MemoryDesk::new(
         alloc,
         rules.as_slice(),
@@ -574,7 +574,7 @@ fn replayed(alloc: Global, run: &str) -> Result<MemoryDesk, Fail> {
 }
 
 /// The outlet of this name.
-fn outlet_of(name: &str) -> Option<Outlet> {
+pub fn outlet_of(name: &str) -> Option<Outlet> {
     match name {
         "console" => Some(Outlet::Console),
         "log" => Some(Outlet::Log),

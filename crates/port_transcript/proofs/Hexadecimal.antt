@@ -1,16 +1,31 @@
--- Laws of hexadecimal texts.
-use Rattle.std.proofs.Common.{◌≡◌, ℕ, List, [], ◌∷◌, ◌++◌, take, drop, refl, ap, sym, ◌∙◌}
-use Rattle.std.proofs.lemmas.List.{take-append-drop}
-use Rattle.hex.specs.Hex.{encode_lower, encode_with, lower_digits}
+-- The table of pairs has the two hexadecimal digits of each byte.
+use Rattle.std.proofs.Common.{◌≡◌, ℕ, zero, suc, ◌+◌, ◌-◌, ◌*◌, ◌/◌, ◌%◌, ◌<◌, Bool, true, ◌&&◌, T, eqb, eqb→eq, eq-zero-or-pos, slice_index, inl, inr, arith}
+use lib.Ieee.Fits.{and_l, and_r}
+use Rattle.hex.specs.Hex.{lower_digits}
+use Rattle.port_transcript.specs.declared.text.TheConstants.{PAIRS}
 
-encode_with-append : (t xs ys : List ℕ) → encode_with t (xs ++ ys) ≡ encode_with t xs ++ encode_with t ys
-unfolding encode_with
-encode_with-append t [] ys = refl
-encode_with-append t (x ∷ xs) ys = rw (encode_with-append t xs ys)
+-- a test of all bytes below a number that computes
+abbrev are_pairs : ℕ → Bool
+are_pairs zero = true
+are_pairs (suc byte) =
+    (eqb (slice_index PAIRS (2 * byte)) (slice_index lower_digits (byte / 16))
+    && eqb (slice_index PAIRS (2 * byte + 1)) (slice_index lower_digits (byte % 16)))
+    && are_pairs byte
 
-pub encode_lower-append : (xs ys : List ℕ) → encode_lower (xs ++ ys) ≡ encode_lower xs ++ encode_lower ys
-encode_lower-append xs ys = encode_with-append lower_digits xs ys
+below : (n byte : ℕ) → T (are_pairs n) → byte < n
+    → (slice_index PAIRS (2 * byte) ≡ slice_index lower_digits (byte / 16))
+    × (slice_index PAIRS (2 * byte + 1) ≡ slice_index lower_digits (byte % 16))
+below zero byte are small = absurd (omega arith)
+below (suc n) byte are small =
+    elim (eq-zero-or-pos (n - byte)) [
+      | inl last ↦
+          let same : byte ≡ n = omega arith in
+          let pair = and_l _ (are_pairs n) are in
+          rw same (eqb→eq _ _ (and_l _ _ pair), eqb→eq _ _ (and_r _ _ pair))
+      | inr before ↦ below n byte (and_r _ (are_pairs n) are) (omega arith)
+    ]
 
--- the digits of a front and those of the rest are the digits of all
-pub encode_lower-take_drop : (n : ℕ) (xs : List ℕ) → encode_lower (take n xs) ++ encode_lower (drop n xs) ≡ encode_lower xs
-encode_lower-take_drop n xs = sym (encode_lower-append (take n xs) (drop n xs)) ∙ ap (encode_with lower_digits) (take-append-drop n xs)
+pub PAIRS_at : (byte : ℕ) → byte < 256
+    → (slice_index PAIRS (2 * byte) ≡ slice_index lower_digits (byte / 16))
+    × (slice_index PAIRS (2 * byte + 1) ≡ slice_index lower_digits (byte % 16))
+PAIRS_at byte small = below 256 byte tt small

@@ -13,7 +13,9 @@ ghost use Rattle.arrayvec.specs.ArrayVec.{array_vec_len};
 ghost use Rattle.port_transcript.specs.ConsoleLine.{job_words, kind_text, order_text, order_words};
 
 use crate::plug::plug_name;
-use crate::text::{TEXT_SIZE, Text, append, append_bytes, append_digits, append_number};
+use crate::text::{
+    TEXT_SIZE, Text, append, append_bytes, append_digits, append_number, append_tick,
+};
 use psd_base::{Job, JobKind, Order, Tick};
 
 /// The most bytes that a line of the console has, its line feed included: those of a control job of `BLOCK_SIZE` bytes.
@@ -32,7 +34,7 @@ pub fn write_console_line(tick: Tick, order: &Order, text: &mut Text)
     ensures items { text.new.items ≡ text.old.items ++ order_text tick order.now }
     ensures len { array_vec_len text.new ≤ array_vec_len text.old + CONSOLE_LINE_SIZE }
 {
-    append_number(text, tick);
+    append_tick(text, tick);
     append(text, b" ");
     append_order(text, order);
     append(text, b"\n");

@@ -14,7 +14,7 @@ ghost use Rattle.arrayvec.specs.ArrayVec.{array_vec_len};
 ghost use Rattle.port_transcript.specs.LogLine.{note_text, note_words, reason_text, rule_text, two_digits};
 
 use crate::plug::plug_name;
-use crate::text::{TEXT_SIZE, Text, append, append_number};
+use crate::text::{TEXT_SIZE, Text, append, append_number, append_tick};
 use psd_base::{Note, Reason, RuleName, Tick};
 
 /// The most bytes that a line of the log has, its line feed included.
@@ -36,7 +36,7 @@ pub fn write_log_line(tick: Tick, note: &Note, text: &mut Text)
     ensures items { text.new.items ≡ text.old.items ++ note_text tick note.now }
     ensures len { array_vec_len text.new ≤ array_vec_len text.old + LOG_LINE_SIZE }
 {
-    append_number(text, tick);
+    append_tick(text, tick);
     append(text, b" ");
     append_note(text, note);
     append(text, b"\n");

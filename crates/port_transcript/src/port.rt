@@ -9,7 +9,7 @@ ghost use Rattle.std.specs.Prelude.{◌≡◌, ◌+◌, ◌≤◌, length, ◌++
 ghost use Rattle.arrayvec.specs.ArrayVec.{array_vec_len};
 ghost use Rattle.port_transcript.specs.PortLine.{act_text, answer_text, line_text, side_text};
 
-use crate::text::{TEXT_SIZE, Text, append, append_bytes, append_digits, append_number};
+use crate::text::{TEXT_SIZE, Text, append, append_byte, append_bytes, append_digits, append_tick};
 use psd_base::{Act, Answer, Line, Side};
 
 /// The most bytes that a line of a port has, its line feed included.
@@ -31,7 +31,7 @@ pub fn write_port_line(line: &Line, text: &mut Text)
     ensures items { text.new.items ≡ text.old.items ++ line_text line.now }
     ensures len { array_vec_len text.new ≤ array_vec_len text.old + PORT_LINE_SIZE }
 {
-    append_number(text, line.tick);
+    append_tick(text, line.tick);
     append(text, side_between_blanks(line.side));
     append_act(text, &line.act);
     append_reply(text, &line.answer);
@@ -69,7 +69,7 @@ fn append_act(text: &mut Text, act: &Act)
         Act::Reset => append(text, b"RESET"),
         Act::Setup { address, setup } => {
             append(text, b"SETUP ");
-            append_number(text, *address);
+            append_byte(text, *address);
             append(text, b" ");
             append_digits(text, &setup.bytes());
         }
@@ -80,9 +80,9 @@ fn append_act(text: &mut Text, act: &Act)
             bytes,
         } => {
             append(text, b"OUT ");
-            append_number(text, *address);
+            append_byte(text, *address);
             append(text, b" ");
-            append_number(text, *endpoint);
+            append_byte(text, *endpoint);
             append(text, if *toggle { b" 1 " } else { b" 0 " });
             append_bytes(text, bytes);
         }
@@ -92,9 +92,9 @@ fn append_act(text: &mut Text, act: &Act)
             acked,
         } => {
             append(text, b"IN ");
-            append_number(text, *address);
+            append_byte(text, *address);
             append(text, b" ");
-            append_number(text, *endpoint);
+            append_byte(text, *endpoint);
             append(text, if *acked { b" 1" } else { b" 0" });
         }
     }

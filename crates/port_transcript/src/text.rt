@@ -1,27 +1,161 @@
 //! A text in memory of its own, and what is appended to it.
-ghost use Rattle.std.specs.Prelude.{◌≡◌, ℕ, ◌+◌, ◌*◌, ◌≤◌, length, ◌++◌};
+ghost use Rattle.std.specs.Prelude.{◌≡◌, ◌+◌, ◌*◌, ◌≤◌, [], length, take, ◌++◌};
+ghost use Rattle.std.specs.Fmt.{decimal};
 ghost use Rattle.arrayvec.specs.ArrayVec.{array_vec_len};
 ghost use Rattle.hex.specs.Hex.{encode_lower};
 ghost use Rattle.port_transcript.specs.Text.{bytes_text};
 
-use arrayvec::ArrayVec;
 use itoa::{Buffer, Integer};
-use psd_base::{Bytes, PACKET_SIZE};
+use psd_base::{Bytes, Tick};
+use std::marker::Model;
 
 /// How many bytes a text can hold.
 pub const TEXT_SIZE: usize = 4096;
 
+/// The most bytes of a tick in decimal.
+pub(crate) const TICK_SIZE: usize = 10;
+
+/// The two hexadecimal digits of each byte.
+static PAIRS: [u8; 512] = *b"\
+      000102030405060708090a0b0c0d0e0f101112131415161718191a1b1c1d1e1f\
+      202122232425262728292a2b2c2d2e2f303132333435363738393a3b3c3d3e3f\
+      404142434445464748494a4b4c4d4e4f505152535455565758595a5b5c5d5e5f\
+      606162636465666768696a6b6c6d6e6f707172737475767778797a7b7c7d7e7f\
+      808182838485868788898a8b8c8d8e8f909192939495969798999a9b9c9d9e9f\
+      a0a1a2a3a4a5a6a7a8a9aaabacadaeafb0b1b2b3b4b5b6b7b8b9babbbcbdbebf\
+      c0c1c2c3c4c5c6c7c8c9cacbcccdcecfd0d1d2d3d4d5d6d7d8d9dadbdcdddedf\
+      e0e1e2e3e4e5e6e7e8e9eaebecedeeeff0f1f2f3f4f5f6f7f8f9fafbfcfdfeff";
+
 /// A text of at most `TEXT_SIZE` bytes, which lie in the value itself. A writer of many lines keeps one and empties
 /// it, since a fresh one costs more than a line.
-pub type Text = ArrayVec<u8, TEXT_SIZE>;
+#[derive(Drop)]
+pub struct Text {
+    bytes: [u8; TEXT_SIZE],
+    len: usize,
+    tick: TickDigits,
+}
+
+impl Model for Text {
+    ghost use Rattle.std.specs.Prelude.{◌≡◌, ℕ, ◌≤◌, length, take};
+    ghost use Rattle.arrayvec.specs.ArrayVec.{ArrayVec};
+    ghost use Rattle.port_transcript.specs.declared.text.TheConstants.{TEXT_SIZE};
+
+    ghost Value = { ArrayVec ℕ };
+
+    ghost view = { λ text. record { items = take text.len text.bytes } };
+
+    ghost invariant = { λ text. record {
+      within : text.len ≤ TEXT_SIZE;
+      size : length text.bytes ≡ TEXT_SIZE;
+    } };
+}
+
+impl Text {
+    /// No bytes.
+    pub fn new() -> Text
+        ensures { result.items ≡ [] }
+    {
+        Text {
+            bytes: [0; TEXT_SIZE],
+            len: 0,
+            tick: TickDigits::of(0),
+        }
+    }
+
+    /// Drops every byte.
+    pub fn clear(&mut self)
+        ensures { self.new.items ≡ [] }
+    {
+        self.len = 0;
+    }
+
+    /// How many bytes it has.
+    pub fn len(&self) -> usize
+        ensures value { result ≡ array_vec_len self.now }
+        ensures fits { result ≤ TEXT_SIZE }
+    {
+        self.len
+    }
+
+    /// The bytes.
+    pub fn as_slice(&self) -> &[u8]
+        ensures value { result.now ≡ self.now.items }
+        ensures fits { length result.now ≤ TEXT_SIZE }
+    {
+        &self.bytes[..self.len]
+    }
+}
+
+/// The digits of the tick that was appended last, and any bytes behind them.
+#[derive(Drop)]
+struct TickDigits {
+    tick: Tick,
+    digits: [u8; TICK_SIZE],
+    len: usize,
+}
+
+impl Model for TickDigits {
+    ghost use Rattle.std.specs.Prelude.{◌≡◌, ℕ, ◌≤◌, length, take};
+    ghost use Rattle.std.specs.Fmt.{decimal};
+    ghost use Rattle.port_transcript.specs.declared.text.TheConstants.{TICK_SIZE};
+
+    ghost Value = { ℕ };
+
+    ghost view = { λ kept. kept.tick };
+
+    ghost invariant = { λ kept. record {
+      within : kept.len ≤ TICK_SIZE;
+      size : length kept.digits ≡ TICK_SIZE;
+      digits : take kept.len kept.digits ≡ decimal kept.tick;
+    } };
+}
+
+impl TickDigits {
+    /// The digits of this tick.
+    fn of(tick: Tick) -> TickDigits
+        ensures { result ≡ tick }
+    {
+        let mut buffer = Buffer::new();
+        let text = buffer.format(tick).as_bytes();
+        let mut digits = [0; TICK_SIZE];
+        copy_to(&mut digits, 0, text);
+        TickDigits {
+            tick,
+            digits,
+            len: text.len(),
+        }
+    }
+
+    /// Turns to this tick. Ticks repeat, so mostly the digits are there.
+    #[inline(always)]
+    fn turn_to(&mut self, tick: Tick)
+        ensures { self.new ≡ tick }
+    {
+        if self.tick != tick {
+            *self = TickDigits::of(tick);
+        }
+    }
+}
+
+/// Writes bytes over those from a place on.
+#[inline(always)]
+fn copy_to(into: &mut [u8], start: usize, bytes: &[u8])
+    requires { start + length bytes.now ≤ length into.old }
+    ensures written { take (start + length bytes.now) into.new ≡ take start into.old ++ bytes.now }
+    ensures len { length into.new ≡ length into.old }
+{
+    into[start..start + bytes.len()].copy_from_slice(bytes);
+}
 
 /// Appends bytes. There is room for them.
+#[inline(always)]
 pub fn append(text: &mut Text, bytes: &[u8])
     requires { array_vec_len text.old + length bytes.now ≤ TEXT_SIZE }
     ensures items { text.new.items ≡ text.old.items ++ bytes.now }
     ensures len { array_vec_len text.new ≡ array_vec_len text.old + length bytes.now }
 {
-    let _ = text.try_extend_from_slice(bytes);
+    copy_to(&mut text.bytes, text.len, bytes);
+    text.len += bytes.len();
 }
 
 /// Appends a number in decimal. There is room for the longest of its type.
@@ -34,17 +168,34 @@ pub fn append_number<I: Integer>(text: &mut Text, number: I)
     append(text, buffer.format(number).as_bytes());
 }
 
-/// Appends the hexadecimal digits of at most `PACKET_SIZE` bytes. There is room for them.
-fn append_piece(text: &mut Text, bytes: &[u8])
-    requires few { length bytes.now ≤ PACKET_SIZE }
-    requires room { array_vec_len text.old + 2 * length bytes.now ≤ TEXT_SIZE }
-    ensures items { text.new.items ≡ text.old.items ++ encode_lower bytes.now }
-    ensures len { array_vec_len text.new ≡ array_vec_len text.old + 2 * length bytes.now }
+/// Appends a number of one byte in decimal. There is room for three digits. Most numbers have one, which is written
+/// directly.
+#[inline(always)]
+#[tactic(auto, using(std::proofs::lemmas::Fmt::decimal_digit))]
+pub(crate) fn append_byte(text: &mut Text, number: u8)
+    requires { array_vec_len text.old + 3 ≤ TEXT_SIZE }
+    ensures items { text.new.items ≡ text.old.items ++ decimal number }
+    ensures len { array_vec_len text.new ≤ array_vec_len text.old + 3 }
 {
-    let mut digits = [0u8; 2 * PACKET_SIZE];
-    let used = &mut digits[..2 * bytes.len()];
-    let _ = hex::encode_to_slice(bytes, used);
-    append(text, used);
+    if number < 10 {
+        append(text, &[b'0' + number]);
+    } else {
+        append_number(text, number);
+    }
+}
+
+/// Appends a tick in decimal. There is room for the longest. All bytes of the kept digits are written, since a copy
+/// of a fixed size costs least; the text ends behind the digits.
+#[inline(always)]
+pub(crate) fn append_tick(text: &mut Text, tick: Tick)
+    requires { array_vec_len text.old + TICK_SIZE ≤ TEXT_SIZE }
+    ensures items { text.new.items ≡ text.old.items ++ decimal tick }
+    ensures len { array_vec_len text.new ≤ array_vec_len text.old + TICK_SIZE }
+{
+    text.tick.turn_to(tick);
+    let kept = &text.tick;
+    copy_to(&mut text.bytes, text.len, &kept.digits);
+    text.len += kept.len;
 }
 
 /// Appends the hexadecimal digits of bytes, two for each. There is room for them.
@@ -53,13 +204,24 @@ pub(crate) fn append_digits(text: &mut Text, bytes: &[u8])
     ensures items { text.new.items ≡ text.old.items ++ encode_lower bytes.now }
     ensures len { array_vec_len text.new ≡ array_vec_len text.old + 2 * length bytes.now }
 {
-    let mut rest = bytes;
-    'pieces: while rest.len() > PACKET_SIZE {
-        let (piece, others) = rest.split_at(PACKET_SIZE);
-        append_piece(text, piece);
-        rest = others;
+    let start = text.len;
+    let end = start + 2 * bytes.len();
+    write_digits(&mut text.bytes[start..end], bytes);
+    text.len = end;
+}
+
+/// Writes the hexadecimal digits of bytes.
+#[inline(always)]
+fn write_digits(into: &mut [u8], bytes: &[u8])
+    requires { length into.old ≡ 2 * length bytes.now }
+    ensures { into.new ≡ encode_lower bytes.now }
+{
+    'bytes: for i in 0..bytes.len() {
+        let pair = 2 * bytes[i] as usize;
+        let (high, low) = (PAIRS[pair], PAIRS[pair + 1]);
+        into[2 * i] = high;
+        into[2 * i + 1] = low;
     }
-    append_piece(text, rest);
 }
 
 /// Appends bytes in hexadecimal, or `-` where there are none. There is room for the most.

@@ -1,12 +1,13 @@
 -- What one clock event makes of the choice.
-use Rattle.std.proofs.Common.{◌≡◌, ℕ, Bool, true, false, List, [], ◌∷◌, Option, Some, None, cond, refl, sym, subst, eq-eqb, ⊎_elim}
-use Rattle.std.specs.Prelude.{◌&&◌, ◌||◌, ◌==◌}
+use Rattle.std.proofs.Common.{◌≡◌, ℕ, Bool, true, false, List, [], ◌∷◌, Option, Some, None, cond, refl, sym, ap, subst, eq-eqb, ⊎_elim}
+use Rattle.std.specs.Prelude.{◌&&◌, ◌||◌, ◌==◌, ◌↔◌}
 use Rattle.std.specs.List.{list_any}
 use Rattle.std.proofs.lemmas.Bool.{ne_eqb, cases_eq}
 use Rattle.psd_base.specs.History.{newest, since, or_else}
 use Rattle.selector.specs.declared.choice.Choice.{Choice}
 use Rattle.selector.specs.declared.choice.Choice.TheVariants.{Nobody, Target, Selected}
-use Rattle.selector.specs.Choice.{Look, names, names_other, asks_for, asks_for_other, is_settled, chosen_of, chosen}
+use Rattle.selector.specs.declared.selector.Move.TheVariants.{Stay, LeaveEnter}
+use Rattle.selector.specs.Choice.{Look, names, names_other, asks_for, asks_for_other, is_settled, chosen_of, chosen, move_of, selected_in}
 use Rattle.selector.specs.ChoiceStep.{asked_for, after_ask, after_look}
 
 abbrev last_ask : List Look → Option ℕ
@@ -125,3 +126,33 @@ pub chosen-look : (ask : Option ℕ) (all_up : Bool) (looks : List Look)
     → chosen (look_at ask all_up ∷ looks) ≡ after_look all_up (after_ask ask (chosen looks))
 unfolding chosen
 chosen-look ask all_up looks = chosen_by ask all_up looks
+
+-- the answer is Stay exactly where the selected port stays
+abbrev pub IsStayExactly : Choice → Choice → Type 0
+IsStayExactly before after = (move_of before after ≡ Stay) ↔ (selected_in after ≡ selected_in before)
+
+stay-selected : (left port : ℕ) → (cond (left == port) Stay (LeaveEnter left port) ≡ Stay) ↔ (Some port ≡ Some left)
+stay-selected left port =
+    ⊎_elim
+    (λ same. (λ is. ap Some (sym same), λ is. rw (eq-eqb left port same) refl))
+    (λ apart.
+    let other : (left == port) ≡ false = ne_eqb left port apart in
+    (λ is. let moved : LeaveEnter left port ≡ Stay = rw other at is in absurd (cc), λ is. absurd (apart (cc))))
+    (cases_eq left port)
+
+stay-asked : (selected port : ℕ) (all_up same : Bool) → IsStayExactly (Selected selected) (after_look all_up (cond same (Selected selected) (Target port)))
+stay-asked selected port all_up true = stay-selected selected selected
+stay-asked selected port true false = stay-selected selected port
+stay-asked selected port false false = (λ is. absurd (cc), λ is. absurd (cc))
+
+-- of what one clock event makes of the choice
+pub stay-look : (ask : Option ℕ) (all_up : Bool) (before : Choice) → IsStayExactly before (after_look all_up (after_ask ask before))
+stay-look None all_up Nobody = (λ is. refl, λ is. refl)
+stay-look None true (Target port) = (λ is. absurd (cc), λ is. absurd (cc))
+stay-look None false (Target port) = (λ is. refl, λ is. refl)
+stay-look None all_up (Selected port) = stay-selected port port
+stay-look (Some port) true Nobody = (λ is. absurd (cc), λ is. absurd (cc))
+stay-look (Some port) false Nobody = (λ is. refl, λ is. refl)
+stay-look (Some port) true (Target waiting) = (λ is. absurd (cc), λ is. absurd (cc))
+stay-look (Some port) false (Target waiting) = (λ is. refl, λ is. refl)
+stay-look (Some port) all_up (Selected selected) = stay-asked selected port all_up (selected == port)

@@ -1,5 +1,5 @@
 //! Which port is selected, by the buttons of the panel and the clock.
-ghost use Rattle.std.specs.Prelude.{◌≡◌, List, [], ◌∷◌};
+ghost use Rattle.std.specs.Prelude.{◌≡◌, ◌↔◌, List, [], ◌∷◌};
 ghost use Rattle.selector.specs.Moments.{Moment, Moved, Ticked};
 ghost use Rattle.selector.specs.Panel.{are_buttons_up};
 ghost use Rattle.selector.specs.Choice.{ask_of, choice_after, selected_in, move_of};
@@ -93,6 +93,7 @@ impl Selector {
             → SelectorStands self.new (Ticked tick all_up ∷ past) }
         ensures answer { (past : List Moment) → SelectorStands self.old past
             → result ≡ move_of (choice_after past) (choice_after (Ticked tick all_up ∷ past)) }
+        ensures stay { (result ≡ Move.Stay) ↔ (selected_in self.new.choice ≡ selected_in self.old.choice) }
     {
         let ask = ask_of(self.pair, self.held_since, tick);
         take_look(&mut self.choice, ask, all_up)

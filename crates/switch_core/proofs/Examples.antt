@@ -1,5 +1,5 @@
 -- The definitions at work on small runs, each computed. Histories are newest first.
-use Rattle.std.specs.Prelude.{◌≡◌, ℕ, true, false, List, [], ◌∷◌, Option, Some, option_map, take, length, refl}
+use Rattle.std.specs.Prelude.{◌≡◌, ℕ, true, false, List, [], ◌∷◌, Some, option_map, length, refl}
 use Rattle.psd_base.specs.Event.{Seen, TimePasses, PortActs, PanelMoves, AtFront}
 use Rattle.peripheral_filter.specs.declared.rule.RuleSet.{RuleSet}
 use Rattle.psd_base.specs.Setup.{setup_of}
@@ -10,49 +10,16 @@ use Rattle.psd_base.specs.declared.console.Note.TheVariants as note
 use Rattle.psd_base.specs.declared.console.Panel.{Panel}
 use Rattle.psd_base.specs.declared.console.Panel.TheVariants as panel
 use Rattle.psd_base.specs.declared.console.Reason.TheVariants as reason
-use Rattle.control_pipe.specs.Control.{ControlAct}
 use Rattle.fail_secure.specs.Health.{health_after}
 use Rattle.selector.specs.Panel.{ports_down}
 use Rattle.selector.specs.Choice.{chosen}
 use Rattle.psd_base.specs.KeySet.{no_keys}
 use Rattle.console_plug.specs.Shown.{shown_keys, shown_buttons}
-use Rattle.switch_core.specs.KmDescriptors.{km_descriptor}
 use Rattle.switch_core.specs.Lines.{line_at}
 use Rattle.switch_core.specs.Notes.{notes_at}
 use Rattle.switch_core.specs.Peripherals.{peripheral_notes, shows_none}
-use Rattle.switch_core.specs.OnePort.{km_act, interrupt_answer, one_port_lines}
+use Rattle.km_port.specs.OnePort.{one_port_lines}
 use Rattle.switch_core.specs.View.{view}
-
--- a configured keyboard and mouse, at address 0
-abbrev configured : List ControlAct
-configured =
-    km_act (act.In 0 0 true)
-    ∷ km_act (act.Setup 0 (setup_of (0 ∷ 9 ∷ 1 ∷ 0 ∷ 0 ∷ 0 ∷ 0 ∷ 0 ∷ [])))
-    ∷ []
-
-idle_keyboard : interrupt_answer configured (act.In 0 1 true) ≡ answer.Nak
-idle_keyboard = refl
-
-idle_mouse : interrupt_answer configured (act.In 0 2 true) ≡ answer.Nak
-idle_mouse = refl
-
-no_third_endpoint : interrupt_answer configured (act.In 0 3 true) ≡ answer.Silent
-no_third_endpoint = refl
-
-no_endpoint_before_configuration : interrupt_answer [] (act.In 0 1 true) ≡ answer.Silent
-no_endpoint_before_configuration = refl
-
--- the report descriptors begin with a keyboard's and a mouse's usage
-abbrev first_four : List ℕ → Option (List ℕ)
-first_four setup = option_map (take 4) (km_descriptor (setup_of setup))
-
-keyboard_report : first_four (0x81 ∷ 6 ∷ 0 ∷ 0x22 ∷ 0 ∷ 0 ∷ 0x40 ∷ 0 ∷ []) ≡ Some (0x05 ∷ 0x01 ∷ 0x09 ∷ 0x06 ∷ [])
-unfolding km_descriptor
-keyboard_report = refl
-
-mouse_report : first_four (0x81 ∷ 6 ∷ 0 ∷ 0x22 ∷ 1 ∷ 0 ∷ 0x34 ∷ 0 ∷ []) ≡ Some (0x05 ∷ 0x01 ∷ 0x09 ∷ 0x02 ∷ [])
-unfolding km_descriptor
-mouse_report = refl
 
 abbrev no_rules : RuleSet
 no_rules = record { allow = record { items = [] }; deny = record { items = [] } }

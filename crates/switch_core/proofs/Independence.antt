@@ -7,9 +7,10 @@ use Rattle.peripheral_filter.specs.declared.rule.RuleSet.{RuleSet}
 use Rattle.switch_core.specs.Independence.{is_act, is_act_elsewhere, without, ConsoleIgnoresActs, SameViewSameLines, ViewIgnoresOthers}
 use Rattle.switch_core.specs.FrontEvents.{FrontEvent, front_event, front_of}
 use Rattle.switch_core.specs.Notes.{notes_at}
-use Rattle.switch_core.specs.OnePort.{one_port_lines}
+use Rattle.km_port.specs.Concerns.{Item, Own, item}
+use Rattle.km_port.specs.OnePort.{one_port_lines}
 use Rattle.switch_core.specs.Orders.{orders_at}
-use Rattle.switch_core.specs.View.{Item, Own, view}
+use Rattle.switch_core.specs.View.{view}
 
 -- the same happened at the front
 front_without_acts : (past : List Seen) → front_of (without is_act past) ≡ front_of past
@@ -60,7 +61,7 @@ view_without_others rules port (event ∷ past) = by_happening event.tick event.
 
   by_owner : (tick other : ℕ) (side : Side) (act : Act) (own : Bool) → (other == port) ≡ own → view rules port (without (is_act_elsewhere port) past) ≡ view rules port past
       → view rules port (without (is_act_elsewhere port) (record { tick = tick; happening = PortActs other side act } ∷ past)) ≡ view rules port (record { tick = tick; happening = PortActs other side act } ∷ past)
-  by_owner tick other side act true is before = rw is (rw is (ap (λ (items : List Item). record { tick = tick; concern = Own side act } ∷ items) before))
+  by_owner tick other side act true is before = rw is (rw is (ap (λ (items : List Item). item tick (Own side act) ∷ items) before))
   by_owner tick other side act false is before = rw is before
 
   by_happening : (tick : ℕ) (happening : Happening) → view rules port (without (is_act_elsewhere port) past) ≡ view rules port past

@@ -1,6 +1,6 @@
 -- What events leave of a port's view.
-use Rattle.std.proofs.Common.{◌≡◌, ◌≢◌, ℕ, Bool, true, false, not, ◌&&◌, nat_eq, List, [], ◌∷◌, ◌++◌, Option, refl, sym, subst, ◌∙◌, inl, inr}
-use Rattle.std.proofs.lemmas.Bool.Decides.{eqb_tells}
+use Rattle.std.proofs.Common.{◌≡◌, ℕ, Bool, true, false, not, ◌&&◌, nat_eq, List, [], ◌∷◌, ◌++◌, Option, Some, None, cond, refl, ◌∙◌}
+use Rattle.std.proofs.lemmas.Bool.{false≢true}
 use Rattle.psd_base.specs.declared.act.Act.{Act}
 use Rattle.psd_base.specs.declared.act.Side.{Side}
 use Rattle.psd_base.specs.Event.{Seen, Doing, TimePasses, PanelMoves, Attaches, Detaches, Replies, Reports, Happening, PortActs, AtFront}
@@ -10,15 +10,22 @@ use Rattle.fail_secure.specs.declared.health.Health.TheVariants.{Testing, Alive,
 use Rattle.fail_secure.specs.Health.{health_after}
 use Rattle.fail_secure.specs.declared.health_change.HealthChange.{HealthChange}
 use Rattle.fail_secure.specs.declared.health_change.HealthChange.TheVariants as change
-use Rattle.control_pipe.specs.PipeStands.{PipeStands}
+use Rattle.psd_base.specs.declared.console.Plug.TheVariants.{Keyboard, Mouse}
+use Rattle.psd_base.specs.declared.sample.Sample.{Sample}
+use Rattle.km_port.specs.Concerns.{Concern, Own, Wakes, Darkens, Selects, Leaves, Keys, Pointer, Item, item, is_live}
+use Rattle.km_port.specs.OnePort.{one_port_lines}
+use Rattle.km_port.proofs.Showing.{LiveStands-Keys, LiveStands-Pointer}
 use Rattle.switch_core.specs.declared.slot.Slot.{Slot}
 use Rattle.switch_core.specs.declared.slot.Slot.TheVariants as slot
 use Rattle.fail_secure.specs.HealthChange.{is_alive, change_of}
 use Rattle.switch_core.specs.FrontEvents.{FrontEvent, front_event, front_of}
 use Rattle.switch_core.specs.FrontHealth.{health_at}
 use Rattle.switch_core.specs.Chosen.{selected_at, is_at}
-use Rattle.switch_core.specs.View.{Concern, Own, Selects, Leaves, Item, stamped, only_if, handed, change_concerns, front_concerns, view}
-use Rattle.switch_core.specs.OnePort.{Parts, is_live, parts_of, one_port_lines}
+use Rattle.switch_core.specs.Peripherals.{moment_at, plug_history}
+use Rattle.switch_core.specs.Shown.{keys_at, keys_concern, pointer_concern, sample_at, shown_at, shown_concerns}
+use Rattle.switch_core.specs.declared.shown.Shown.{Shown}
+use Rattle.switch_core.specs.declared.shown.Shown.TheVariants as shown_as
+use Rattle.switch_core.specs.View.{stamped, only_if, only_at, handed, change_concerns, front_concerns, view}
 use Rattle.switch_core.specs.SlotStands.{SlotStands}
 
 -- what two concerns keep, handing keeps
@@ -40,19 +47,56 @@ pub is_live-selection : (port tick : ℕ) (before after : Option ℕ) (past : Li
 is_live-selection port tick before after past =
     by_handing (λ v. is_live v ≡ is_live past) port tick before after Leaves Selects (λ v e. e) (λ v e. e) past refl
 
--- a concern that leaves a port as it is
-kept_by : (port : Slot) (item : Item) (past : List Item) → is_live (item ∷ past) ≡ is_live past → parts_of (item ∷ past) ≡ parts_of past
-    → SlotStands port past → SlotStands port (item ∷ past)
-kept_by (slot.Dark port) item past live parts stands = live ∙ stands
-kept_by (slot.Live port) item past live parts stands = record {
-  live = live ∙ stands.live;
-  pipe = subst (λ (p : Parts). PipeStands port.state.pipe p.control) (sym parts) stands.pipe;
-}
+-- what the console shows leaves a port as it is
+SlotStands-Keys : (port : Slot) (tick : ℕ) (keys : List Bool) (past : List Item) → SlotStands port past → SlotStands port (item tick (Keys keys) ∷ past)
+SlotStands-Keys (slot.Dark port) tick keys past stands = stands
+SlotStands-Keys (slot.Live port) tick keys past stands = LiveStands-Keys port tick keys past stands
 
-pub SlotStands-selection : (port : Slot) (number tick : ℕ) (before after : Option ℕ) (past : List Item) → SlotStands port past
-    → SlotStands port (stamped tick (handed number before after Leaves Selects) past)
-SlotStands-selection port number tick before after past stands =
-    by_handing (SlotStands port) number tick before after Leaves Selects (λ v s. kept_by port _ v refl refl s) (λ v s. kept_by port _ v refl refl s) past stands
+SlotStands-Pointer : (port : Slot) (tick : ℕ) (sample : Sample) (past : List Item) → SlotStands port past → SlotStands port (item tick (Pointer sample) ∷ past)
+SlotStands-Pointer (slot.Dark port) tick sample past stands = stands
+SlotStands-Pointer (slot.Live port) tick sample past stands = LiveStands-Pointer port tick sample past stands
+
+pub SlotStands-shown : (port : Slot) (number tick : ℕ) (chosen : Option ℕ) (shown : Shown) (past : List Item) → SlotStands port past
+    → SlotStands port (stamped tick (only_at number chosen (shown_concerns shown)) past)
+SlotStands-shown port number tick chosen shown past stands = by (is_at number chosen) shown where
+  by : (own : Bool) (shown : Shown) → SlotStands port (stamped tick (cond own (shown_concerns shown) []) past)
+  by false shown = stands
+  by true shown_as.Nothing = stands
+  by true (shown_as.Keys keys) = SlotStands-Keys port tick keys past stands
+  by true (shown_as.Pointer sample) = SlotStands-Pointer port tick sample past stands
+
+abbrev is_shown : Concern → Bool
+is_shown (Keys keys) = true
+is_shown (Pointer sample) = true
+is_shown _ = false
+
+-- a property that what is shown keeps
+by_showing : (P : List Item → Type 0) (port tick : ℕ) (chosen : Option ℕ) (keys : Option (List Bool)) (sample : Option Sample)
+    → ((concern : Concern) (past : List Item) → is_shown concern ≡ true → P past → P (item tick concern ∷ past))
+    → (past : List Item) → P past → P (stamped tick (only_at port chosen (keys_concern keys ++ pointer_concern sample)) past)
+by_showing P port tick chosen keys sample keeps past holds = by (is_at port chosen) keys sample where
+  by : (own : Bool) (keys : Option (List Bool)) (sample : Option Sample) → P (stamped tick (cond own (keys_concern keys ++ pointer_concern sample) []) past)
+  by false keys sample = holds
+  by true None None = holds
+  by true (Some keys) None = keeps (Keys keys) past refl holds
+  by true None (Some sample) = keeps (Pointer sample) past refl holds
+  by true (Some keys) (Some sample) = keeps (Pointer sample) _ refl (keeps (Keys keys) past refl holds)
+
+shown_keeps_live : (concern : Concern) (tick : ℕ) (past : List Item) → is_shown concern ≡ true → is_live (item tick concern ∷ past) ≡ is_live past
+shown_keeps_live (Own side act) tick past is = absurd (false≢true is)
+shown_keeps_live Wakes tick past is = absurd (false≢true is)
+shown_keeps_live Darkens tick past is = absurd (false≢true is)
+shown_keeps_live Selects tick past is = absurd (false≢true is)
+shown_keeps_live Leaves tick past is = absurd (false≢true is)
+shown_keeps_live (Keys keys) tick past is = refl
+shown_keeps_live (Pointer sample) tick past is = refl
+
+is_live-shown : (rules : RuleSet) (port : ℕ) (event : FrontEvent) (front : List FrontEvent) (past : List Item)
+    → is_live (stamped event.tick (only_at port (selected_at rules front) (shown_at rules event front)) past) ≡ is_live past
+is_live-shown rules port event front past =
+    by_showing (λ v. is_live v ≡ is_live past) port event.tick (selected_at rules front)
+    (keys_at rules (moment_at Keyboard event front) (plug_history Keyboard front)) (sample_at rules (moment_at Mouse event front) (plug_history Mouse front))
+    (λ concern v is e. shown_keeps_live concern event.tick v is ∙ e) past refl
 
 -- the ports are live where the health is alive
 is_live-act : (port tick other : ℕ) (side : Side) (act : Act) (past : List Item)
@@ -81,9 +125,9 @@ is_live-front rules port tick TimePasses front past is =
 is_live-front rules port tick (PanelMoves move) front past is =
     is_live-change tick (health_at front) (health_at (front_event tick (PanelMoves move) ∷ front)) past is
 is_live-front rules port tick (Attaches plug) front past is = is
-is_live-front rules port tick (Detaches plug) front past is = is
+is_live-front rules port tick (Detaches plug) front past is = is_live-shown rules port (front_event tick (Detaches plug)) front past ∙ is
 is_live-front rules port tick (Replies plug life number status bytes) front past is = is
-is_live-front rules port tick (Reports plug interface bytes) front past is = is
+is_live-front rules port tick (Reports plug interface bytes) front past is = is_live-shown rules port (front_event tick (Reports plug interface bytes)) front past ∙ is
 
 pub is_live-view : (rules : RuleSet) (port : ℕ) (past : List Seen) → is_live (view rules port past) ≡ is_alive (health_at (front_of past))
 unfolding health_after
@@ -93,15 +137,6 @@ is_live-view rules port (event ∷ past) = by_happening (is_live-view rules port
       → is_live (view rules port (record { tick = tick; happening = happening } ∷ past)) ≡ is_alive (health_at (front_of (record { tick = tick; happening = happening } ∷ past)))
   by_happening before tick (PortActs other side act) = is_live-act port tick other side act (view rules port past) ∙ before
   by_happening before tick (AtFront doing) = is_live-front rules port tick doing (front_of past) (view rules port past) before
-
--- the view of the port that acted, and of another one
-pub own_view : (rules : RuleSet) (port other tick : ℕ) (side : Side) (act : Act) (past : List Seen) → port ≡ other
-    → view rules other (record { tick = tick; happening = PortActs port side act } ∷ past) ≡ record { tick = tick; concern = Own side act } ∷ view rules other past
-own_view rules port other tick side act past same = elim (eqb_tells port other) [ inl is ↦ rw is.0 | inr is ↦ absurd (is.1 same) ]
-
-pub other_view : (rules : RuleSet) (port other tick : ℕ) (side : Side) (act : Act) (past : List Seen) → port ≢ other
-    → view rules other (record { tick = tick; happening = PortActs port side act } ∷ past) ≡ view rules other past
-other_view rules port other tick side act past apart = elim (eqb_tells port other) [ inl is ↦ absurd (apart is.1) | inr is ↦ rw is.0 ]
 
 -- ports wake where the switch was not alive
 pub wakes_from : (before after : Health) → change.Wakes ≡ change_of before after → is_alive before ≡ false
@@ -117,6 +152,22 @@ one_port_lines-change tick change.Stays past = refl
 one_port_lines-change tick change.Wakes past = refl
 one_port_lines-change tick change.Darkens past = refl
 
+shown_adds_no_line : (concern : Concern) (tick : ℕ) (past : List Item) → is_shown concern ≡ true → one_port_lines (item tick concern ∷ past) ≡ one_port_lines past
+shown_adds_no_line (Own side act) tick past is = absurd (false≢true is)
+shown_adds_no_line Wakes tick past is = absurd (false≢true is)
+shown_adds_no_line Darkens tick past is = absurd (false≢true is)
+shown_adds_no_line Selects tick past is = absurd (false≢true is)
+shown_adds_no_line Leaves tick past is = absurd (false≢true is)
+shown_adds_no_line (Keys keys) tick past is = refl
+shown_adds_no_line (Pointer sample) tick past is = refl
+
+one_port_lines-shown : (rules : RuleSet) (port : ℕ) (event : FrontEvent) (front : List FrontEvent) (past : List Item)
+    → one_port_lines (stamped event.tick (only_at port (selected_at rules front) (shown_at rules event front)) past) ≡ one_port_lines past
+one_port_lines-shown rules port event front past =
+    by_showing (λ v. one_port_lines v ≡ one_port_lines past) port event.tick (selected_at rules front)
+    (keys_at rules (moment_at Keyboard event front) (plug_history Keyboard front)) (sample_at rules (moment_at Mouse event front) (plug_history Mouse front))
+    (λ concern v is e. shown_adds_no_line concern event.tick v is ∙ e) past refl
+
 -- what happens at the front adds no line to any port
 one_port_lines-doing : (rules : RuleSet) (port tick : ℕ) (doing : Doing) (front : List FrontEvent) (past : List Item)
     → one_port_lines (stamped tick (front_concerns rules port tick doing front) past) ≡ one_port_lines past
@@ -126,9 +177,9 @@ one_port_lines-doing rules port tick TimePasses front past =
 one_port_lines-doing rules port tick (PanelMoves move) front past =
     one_port_lines-change tick (change_of (health_at front) (health_at (front_event tick (PanelMoves move) ∷ front))) past
 one_port_lines-doing rules port tick (Attaches plug) front past = refl
-one_port_lines-doing rules port tick (Detaches plug) front past = refl
+one_port_lines-doing rules port tick (Detaches plug) front past = one_port_lines-shown rules port (front_event tick (Detaches plug)) front past
 one_port_lines-doing rules port tick (Replies plug life number status bytes) front past = refl
-one_port_lines-doing rules port tick (Reports plug interface bytes) front past = refl
+one_port_lines-doing rules port tick (Reports plug interface bytes) front past = one_port_lines-shown rules port (front_event tick (Reports plug interface bytes)) front past
 
 pub one_port_lines-front : (rules : RuleSet) (port tick : ℕ) (doing : Doing) (past : List Seen)
     → one_port_lines (view rules port (record { tick = tick; happening = AtFront doing } ∷ past)) ≡ one_port_lines (view rules port past)

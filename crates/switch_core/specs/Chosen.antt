@@ -1,5 +1,5 @@
 -- Which port is selected after what happened at the front, newest first.
-use Rattle.std.specs.Prelude.{ℕ, Bool, false, ◌==◌, List, [], ◌∷◌, Option, Some, None, if◌then◌else◌}
+use Rattle.std.specs.Prelude.{ℕ, ◌+◌, Bool, false, not, ◌==◌, List, [], ◌∷◌, Option, Some, None, if◌then◌else◌}
 use Rattle.psd_base.specs.Event.{Doing, TimePasses, PanelMoves}
 use Rattle.fail_secure.specs.declared.health.Health.{Health}
 use Rattle.fail_secure.specs.HealthChange.{is_alive}
@@ -38,3 +38,16 @@ move_at rules tick past =
 abbrev pub is_at : ℕ → Option ℕ → Bool
 is_at port None = false
 is_at port (Some chosen) = chosen == port
+
+-- whether a port is selected that wasn't before
+abbrev pub is_given : Option ℕ → Option ℕ → Bool
+is_given before None = false
+is_given before (Some port) = not (is_at port before)
+
+abbrev pub given_after : Option ℕ → Option ℕ → ℕ → ℕ
+given_after before after gives = if is_given before after then gives + 1 else gives
+
+-- how many selections there were
+abbrev pub selections : RuleSet → List FrontEvent → ℕ
+selections rules [] = 0
+selections rules (event ∷ past) = given_after (selected_at rules past) (selected_at rules (event ∷ past)) (selections rules past)

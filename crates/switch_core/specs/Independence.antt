@@ -4,7 +4,7 @@ use Rattle.psd_base.specs.Event.{Happening, PortActs, AtFront, Seen}
 use Rattle.peripheral_filter.specs.declared.rule.RuleSet.{RuleSet}
 use Rattle.switch_core.specs.Notes.{notes_at}
 use Rattle.switch_core.specs.Orders.{orders_at}
-use Rattle.switch_core.specs.OnePort.{one_port_lines}
+use Rattle.km_port.specs.OnePort.{one_port_lines}
 use Rattle.switch_core.specs.View.{view}
 
 -- an act of a computer

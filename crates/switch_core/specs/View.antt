@@ -1,35 +1,20 @@
--- What concerns one port: its own acts, the results of the self-test, and the moments at which it is selected. Views and
--- histories are newest first.
-use Rattle.std.specs.Prelude.{ℕ, Bool, true, false, ◌==◌, ◌&&◌, not, List, [], ◌∷◌, ◌++◌, Option}
-use Rattle.psd_base.specs.declared.act.Act.{Act}
-use Rattle.psd_base.specs.declared.act.Side.{Side}
-use Rattle.psd_base.specs.Event.{Doing, TimePasses, PanelMoves, Happening, PortActs, AtFront, Seen}
+-- The view of one port: what concerns it of all that happens. Views and histories are newest first.
+use Rattle.std.specs.Prelude.{ℕ, Bool, true, false, ◌==◌, ◌&&◌, not, List, [], ◌∷◌, ◌++◌, Option, if◌then◌else◌}
+use Rattle.psd_base.specs.Event.{Doing, TimePasses, PanelMoves, Detaches, Reports, Happening, PortActs, AtFront, Seen}
 use Rattle.fail_secure.specs.declared.health_change.HealthChange.{HealthChange}
 use Rattle.fail_secure.specs.declared.health_change.HealthChange.TheVariants as change
 use Rattle.fail_secure.specs.HealthChange.{change_of}
 use Rattle.peripheral_filter.specs.declared.rule.RuleSet.{RuleSet}
+use Rattle.km_port.specs.Concerns.{Concern, Own, Wakes, Darkens, Selects, Leaves, Item, item}
 use Rattle.switch_core.specs.FrontEvents.{FrontEvent, front_event, front_of}
 use Rattle.switch_core.specs.FrontHealth.{health_at}
 use Rattle.switch_core.specs.Chosen.{selected_at, is_at}
-
--- What concerns a port: an act of its computer; that the switch is alive, or dark; that the port is selected, or left.
-pub data Concern : Type 0 where
-  Own : Side → Act → Concern
-  Wakes : Concern
-  Darkens : Concern
-  Selects : Concern
-  Leaves : Concern
-
--- what concerns a port, with the tick
-pub record Item : Type 0 where
-  pub tick : ℕ
-  pub concern : Concern
+use Rattle.switch_core.specs.Shown.{shown_at}
 
 -- the concerns of one event, in their order, each with the event's tick
 abbrev pub stamped : ℕ → List Concern → List Item → List Item
 stamped tick [] view = view
-stamped tick (concern ∷ concerns) view =
-    stamped tick concerns (record { tick = tick; concern = concern } ∷ view)
+stamped tick (concern ∷ concerns) view = stamped tick concerns (item tick concern ∷ view)
 
 abbrev pub only_if : Bool → Concern → List Concern
 only_if true concern = concern ∷ []
@@ -47,12 +32,21 @@ change_concerns change.Stays = []
 change_concerns change.Wakes = Wakes ∷ []
 change_concerns change.Darkens = Darkens ∷ []
 
--- what of an event at the front concerns a port, by what happened there before it
+-- what concerns the selected port alone
+abbrev pub only_at : ℕ → Option ℕ → List Concern → List Concern
+only_at port chosen concerns = if is_at port chosen then concerns else []
+
+-- What of an event at the front concerns a port, by what happened there before it. What the console shows anew concerns the
+-- selected port.
 abbrev pub front_concerns : RuleSet → ℕ → ℕ → Doing → List FrontEvent → List Concern
 front_concerns rules port tick TimePasses front =
     handed port (selected_at rules front) (selected_at rules (front_event tick TimePasses ∷ front)) Leaves Selects
 front_concerns rules port tick (PanelMoves move) front =
     change_concerns (change_of (health_at front) (health_at (front_event tick (PanelMoves move) ∷ front)))
+front_concerns rules port tick (Detaches plug) front =
+    only_at port (selected_at rules front) (shown_at rules (front_event tick (Detaches plug)) front)
+front_concerns rules port tick (Reports plug interface bytes) front =
+    only_at port (selected_at rules front) (shown_at rules (front_event tick (Reports plug interface bytes)) front)
 front_concerns rules port tick _ front = []
 
 abbrev pub concerns : RuleSet → ℕ → ℕ → Happening → List FrontEvent → List Concern

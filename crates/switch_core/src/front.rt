@@ -13,14 +13,17 @@ ghost use Rattle.switch_core.specs.Chosen.{move_at, selected_at};
 ghost use Rattle.switch_core.specs.FrontEvents.{FrontEvent, front_event};
 ghost use Rattle.switch_core.specs.FrontHealth.{IsKnownCheck, checks_in, health_at};
 ghost use Rattle.switch_core.specs.Notes.{change_notes, front_notes, move_notes, selector_notes};
+ghost use Rattle.switch_core.specs.Shown.{IsShown, shown_at, shown_concerns};
 ghost use Rattle.switch_core.specs.Peripherals.{peripheral_notes, peripheral_orders, plug_history};
 
 use crate::peripherals::Peripherals;
 use crate::self_test::{health_moved, reason_for};
+use crate::shown::Shown;
 use fail_secure::{Health, HealthChange, change_between};
 use peripheral_filter::RuleSet;
 use psd_base::console::{Note, Notes, Orders, Panel, Plug};
 use psd_base::event::Tick;
+use psd_base::port::PortId;
 use selector::{Move, Selector};
 use std::alloc::{AllocError, Global};
 
@@ -52,15 +55,12 @@ impl Front {
         })
     }
 
-    /// Time passes: what stayed silent is refused, and then the selection moves, while the switch is alive alone. Gives the
-    /// selection's move.
-    pub fn clock(&mut self, tick: Tick, orders: &mut Orders, notes: &mut Notes) -> Move
+    /// Time passes: what stayed silent is refused, and then the selection moves, while the switch is alive alone.
+    pub fn clock(&mut self, tick: Tick, orders: &mut Orders, notes: &mut Notes)
         requires no_orders { orders.old.items ≡ [] }
         requires no_notes { notes.old.items ≡ [] }
         ensures stands { (rules : RuleSet) (past : List FrontEvent) → FrontStands rules self.old past
             → FrontStands rules self.new (front_event tick TimePasses ∷ past) }
-        ensures answer { (rules : RuleSet) (past : List FrontEvent) → FrontStands rules self.old past
-            → result ≡ move_at rules tick past }
         ensures orders { (rules : RuleSet) (past : List FrontEvent) → FrontStands rules self.old past
             → orders.new.items ≡ peripheral_orders rules (front_event tick TimePasses) past }
         ensures notes { (rules : RuleSet) (past : List FrontEvent) → FrontStands rules self.old past
@@ -71,7 +71,18 @@ impl Front {
         self.peripherals.clock(tick, orders, notes);
         let change = look(self.health, &mut self.selector, tick, all_up);
         note_move(&change, notes);
-        change
+    }
+
+    /// The port that is selected. While the switch isn't alive none is.
+    pub fn selected(&self) -> Option<PortId>
+        ensures { (rules : RuleSet) (past : List FrontEvent) → FrontStands rules self.now past
+            → result ≡ selected_at rules past }
+    {
+        match self.health {
+            Health::Testing { .. } => None,
+            Health::Alive => self.selector.selected(),
+            Health::Dark => None,
+        }
     }
 
     /// A move at the panel. Gives what it means for the ports.
@@ -121,17 +132,20 @@ impl Front {
         self.peripherals.attach(plug, tick, orders);
     }
 
-    /// What is at this plug is taken off.
+    /// What is at this plug is taken off. Gives what the console shows then.
     #[inline(never)]
-    pub fn detach(&mut self, plug: Plug, orders: &mut Orders)
+    pub fn detach(&mut self, plug: Plug, orders: &mut Orders) -> Shown
         requires { orders.old.items ≡ [] }
         ensures stands { (rules : RuleSet) (tick : ℕ) (past : List FrontEvent) → FrontStands rules self.old past
             → FrontStands rules self.new (front_event tick (Detaches plug) ∷ past) }
         ensures orders { (rules : RuleSet) (tick : ℕ) (past : List FrontEvent) → FrontStands rules self.old past
             → orders.new.items ≡ peripheral_orders rules (front_event tick (Detaches plug)) past }
+        ensures shown { (rules : RuleSet) (tick : ℕ) (past : List FrontEvent) → FrontStands rules self.old past
+            → shown_concerns result ≡ shown_at rules (front_event tick (Detaches plug)) past }
+        ensures sample { IsShown result }
         ensures lives { (count : ℕ) → FrontLivesWithin count self.old → FrontLivesWithin count self.new }
     {
-        self.peripherals.detach(plug, orders);
+        self.peripherals.detach(plug, orders)
     }
 
     /// What is at this plug replies to the order of this number in this life.
@@ -171,14 +185,17 @@ impl Front {
         );
     }
 
-    /// What is at this plug sends a report of an interface.
+    /// What is at this plug sends a report of an interface. Gives what the console shows then.
     #[inline(never)]
-    pub fn report(&mut self, plug: Plug, interface: u8, bytes: &[u8])
+    pub fn report(&mut self, plug: Plug, interface: u8, bytes: &[u8]) -> Shown
         ensures stands { (rules : RuleSet) (tick : ℕ) (past : List FrontEvent) → FrontStands rules self.old past
             → FrontStands rules self.new (front_event tick (Reports plug interface bytes.now) ∷ past) }
+        ensures shown { (rules : RuleSet) (tick : ℕ) (past : List FrontEvent) → FrontStands rules self.old past
+            → shown_concerns result ≡ shown_at rules (front_event tick (Reports plug interface bytes.now)) past }
+        ensures sample { IsShown result }
         ensures lives { (count : ℕ) → FrontLivesWithin count self.old → FrontLivesWithin count self.new }
     {
-        self.peripherals.report(plug, interface, bytes);
+        self.peripherals.report(plug, interface, bytes)
     }
 }
 

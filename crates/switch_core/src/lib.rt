@@ -1,18 +1,18 @@
-//! The switch: one emulated keyboard and mouse for each computer, self-test and selection, and the step that serves one event.
+//! The switch: the ports of its computers, the console that they share in turn, self-test and selection, and the step that
+//! serves one event.
 #![tactic(auto)]
 
+mod answers;
 pub mod front;
-pub mod km_descriptors;
 pub mod laws;
 pub mod peripherals;
-pub mod port;
 pub mod ports;
+pub mod seat;
 mod self_test;
+pub mod shown;
 pub mod slot;
 pub mod switch;
 pub mod turn;
 
-pub use km_descriptors::KmDescriptors;
-pub use port::{Dark, Live, Port};
 pub use switch::Switch;
 pub use turn::Turn;

@@ -1,5 +1,5 @@
 //! The keyboard and the mouse at the console.
-ghost use Rattle.std.specs.Prelude.{◌≡◌, ℕ, ◌+◌, ◌-◌, ◌≤◌, List, [], ◌∷◌, ◌++◌, length};
+ghost use Rattle.std.specs.Prelude.{◌≡◌, ℕ, ◌+◌, ◌-◌, ◌≤◌, List, [], ◌∷◌, ◌++◌, length, if◌then◌else◌};
 ghost use Rattle.psd_base.specs.declared.console.Plug.{Plug};
 ghost use Rattle.psd_base.specs.declared.console.Plug.TheVariants.{Keyboard, Mouse};
 ghost use Rattle.psd_base.specs.declared.console.TheConstants.{NOTES_MAX};
@@ -7,13 +7,18 @@ ghost use Rattle.peripheral_filter.specs.declared.rule.RuleSet.{RuleSet};
 ghost use Rattle.console_host.specs.Replies.{reply_of};
 ghost use Rattle.console_plug.specs.Moments.{Moment, Attached, Detached, Replied, Reported, Ticked};
 ghost use Rattle.console_plug.specs.PlugGives.{notes_at, orders_at};
+ghost use Rattle.psd_base.specs.KeySet.{no_keys};
+ghost use Rattle.console_plug.specs.Given.{still};
+ghost use Rattle.switch_core.specs.Shown.{IsShown, shown_by, shown_concerns};
 ghost use Rattle.switch_core.specs.Peripherals.{change_moment, if_same_plug, plug_notes, plug_orders, shows_none, with_moment};
 
+use crate::shown::Shown;
 use console_plug::{ConsolePlug, ShownButtons, ShownKeys};
 use fail_secure::HealthChange;
 use peripheral_filter::RuleSet;
 use psd_base::console::{Notes, Orders, Plug};
 use psd_base::event::Tick;
+use psd_base::{KeySet, Sample};
 
 /// The plugs of the keyboard and the mouse, and what they show. What happens at the token's plug is passed over.
 ///
@@ -119,9 +124,9 @@ impl Peripherals {
         }
     }
 
-    /// What is at this plug is taken off.
+    /// What is at this plug is taken off. Gives what the console shows then: nothing pressed, where something was there.
     #[tactic(auto, unfolding(console_plug::specs::Shown::shown_keys, console_plug::specs::Shown::shown_buttons))]
-    pub fn detach(&mut self, plug: Plug, orders: &mut Orders)
+    pub fn detach(&mut self, plug: Plug, orders: &mut Orders) -> Shown
         requires { orders.old.items ≡ [] }
         ensures stands { (rules : RuleSet) (keyboard mouse : List Moment) → PeripheralsStand rules self.old keyboard mouse
             → PeripheralsStand rules self.new (with_moment (if_same_plug Keyboard plug Detached) keyboard)
@@ -129,18 +134,26 @@ impl Peripherals {
         ensures orders { (rules : RuleSet) (keyboard mouse : List Moment) → PeripheralsStand rules self.old keyboard mouse
             → orders.new.items ≡ plug_orders Keyboard rules (if_same_plug Keyboard plug Detached) keyboard
             ++ plug_orders Mouse rules (if_same_plug Mouse plug Detached) mouse }
+        ensures shown { (rules : RuleSet) (keyboard mouse : List Moment) → PeripheralsStand rules self.old keyboard mouse
+            → shown_concerns result
+            ≡ shown_by rules (if_same_plug Keyboard plug Detached) (if_same_plug Mouse plug Detached) keyboard mouse }
+        ensures sample { IsShown result }
         ensures lives { (count : ℕ) → HasLivesWithin count self.old → HasLivesWithin count self.new }
     {
         match plug {
             Plug::Keyboard => {
+                let was_there = self.keyboard.is_attached();
                 self.keyboard.detach(orders);
                 self.keys.clear();
+                no_keys_if(was_there)
             }
             Plug::Mouse => {
+                let was_there = self.mouse.is_attached();
                 self.mouse.detach(orders);
                 self.buttons.clear();
+                no_button_if(was_there)
             }
-            Plug::Token => {}
+            Plug::Token => Shown::Nothing,
         }
     }
 
@@ -185,18 +198,57 @@ impl Peripherals {
         }
     }
 
-    /// What is at this plug sends a report of an interface.
-    pub fn report(&mut self, plug: Plug, interface: u8, bytes: &[u8])
+    /// What is at this plug sends a report of an interface. Gives what the console shows then, where the report says
+    /// something.
+    pub fn report(&mut self, plug: Plug, interface: u8, bytes: &[u8]) -> Shown
         ensures stands { let moment = Reported interface bytes.now in
             (rules : RuleSet) (keyboard mouse : List Moment) → PeripheralsStand rules self.old keyboard mouse
             → PeripheralsStand rules self.new (with_moment (if_same_plug Keyboard plug moment) keyboard)
             (with_moment (if_same_plug Mouse plug moment) mouse) }
+        ensures shown { let moment = Reported interface bytes.now in
+            (rules : RuleSet) (keyboard mouse : List Moment) → PeripheralsStand rules self.old keyboard mouse
+            → shown_concerns result
+            ≡ shown_by rules (if_same_plug Keyboard plug moment) (if_same_plug Mouse plug moment) keyboard mouse }
+        ensures sample { IsShown result }
         ensures lives { (count : ℕ) → HasLivesWithin count self.old → HasLivesWithin count self.new }
     {
         match plug {
-            Plug::Keyboard => self.keys.report(&self.keyboard, interface, bytes),
-            Plug::Mouse => self.buttons.report(&self.mouse, interface, bytes),
-            Plug::Token => {}
+            Plug::Keyboard => match self.keys.report(&self.keyboard, interface, bytes) {
+                Some(keys) => Shown::Keys(keys),
+                None => Shown::Nothing,
+            },
+            Plug::Mouse => match self.buttons.report(&self.mouse, interface, bytes) {
+                Some(sample) => Shown::Pointer(sample),
+                None => Shown::Nothing,
+            },
+            Plug::Token => Shown::Nothing,
         }
+    }
+}
+
+/// No key is down, where a keyboard was there.
+fn no_keys_if(was_there: bool) -> Shown
+    ensures { result ≡ (if was_there then Shown.Keys no_keys else Shown.Nothing) }
+{
+    if was_there {
+        Shown::Keys(KeySet::new())
+    } else {
+        Shown::Nothing
+    }
+}
+
+/// No button is down, where a mouse was there.
+fn no_button_if(was_there: bool) -> Shown
+    ensures { result ≡ (if was_there then Shown.Pointer still else Shown.Nothing) }
+{
+    if was_there {
+        Shown::Pointer(Sample {
+            buttons: 0,
+            x: 0,
+            y: 0,
+            wheel: 0,
+        })
+    } else {
+        Shown::Nothing
     }
 }

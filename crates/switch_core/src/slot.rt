@@ -1,10 +1,12 @@
 //! A port in one of its states.
-ghost use Rattle.std.specs.Prelude.{◌≡◌, ℕ, false, List, ◌∷◌};
-ghost use Rattle.switch_core.specs.View.{Item, Own, Wakes, Darkens};
-ghost use Rattle.switch_core.specs.OnePort.{answer_to, is_live};
+ghost use Rattle.std.specs.Prelude.{◌≡◌, ℕ, Bool, true, false, List, ◌∷◌};
+ghost use Rattle.psd_base.specs.declared.act.Side.TheVariants.{Km, Ua};
+ghost use Rattle.km_port.specs.Concerns.{Item, item, is_live, Own, Wakes, Darkens, Leaves};
+ghost use Rattle.km_port.specs.ConsoleStands.{OwnedStands};
+ghost use Rattle.km_port.specs.OnePort.{answer_to};
 
-use crate::port::{Dark, Live, Port};
-use psd_base::act::{Act, Answer, Side};
+use km_port::{Console, Dark, Farewell, Live, Owned, Port};
+use psd_base::act::{Act, Answer};
 use psd_base::event::Tick;
 use psd_base::port::PortId;
 use std::mem;
@@ -18,20 +20,59 @@ pub enum Slot {
 
 impl Slot {
     ghost use Rattle.switch_core.specs.SlotStands.{SlotStands};
-    ghost use Rattle.switch_core.specs.Wired.{slot_number};
+    ghost use Rattle.switch_core.specs.Wired.{slot_number, IsSlot, IsTold};
 
-    /// Answers one act of the port's computer. A dark port is silent.
+    /// Answers an act at the keyboard and mouse of the port that has the console.
     #[inline(never)]
-    pub fn answer(&mut self, tick: Tick, side: Side, act: &Act, answer: &mut Answer)
-        ensures number { slot_number self.new ≡ slot_number self.old }
+    pub fn answer_owned(
+        &mut self,
+        tick: Tick,
+        act: &Act,
+        console: &mut Console<Owned>,
+        answer: &mut Answer,
+    )
+        requires { IsSlot true console.old.state.port self.old }
+        ensures slot { IsSlot true console.old.state.port self.new }
+        ensures port { console.new.state.port ≡ console.old.state.port }
+        ensures gives { console.new.gives ≡ console.old.gives }
+        ensures stands { (past : List Item) → SlotStands self.old past → OwnedStands console.old past
+            → SlotStands self.new (item tick (Own Km act.now) ∷ past) }
+        ensures console { (past : List Item) → SlotStands self.old past → OwnedStands console.old past
+            → OwnedStands console.new (item tick (Own Km act.now) ∷ past) }
+        ensures answer { (past : List Item) → SlotStands self.old past → OwnedStands console.old past
+            → answer.new ≡ answer_to past tick Km act.now }
+    {
+        match self {
+            Slot::Dark(_) => unreachable!(),
+            Slot::Live(port) => port.km_owned(tick, act, console, answer),
+        }
+    }
+
+    /// Answers an act at the keyboard and mouse of a port that doesn't have the console. A dark port is silent.
+    #[inline(never)]
+    pub fn answer_apart(&mut self, tick: Tick, act: &Act, answer: &mut Answer)
+        requires { IsTold false self.old }
+        ensures slot { (number : ℕ) → IsSlot false number self.old → IsSlot false number self.new }
         ensures stands { (past : List Item) → SlotStands self.old past
-            → SlotStands self.new (record { tick = tick; concern = Own side act.now } ∷ past) }
-        ensures answer { (past : List Item) → SlotStands self.old past
-            → answer.new ≡ answer_to past side act.now }
+            → SlotStands self.new (item tick (Own Km act.now) ∷ past) }
+        ensures answer { (past : List Item) → SlotStands self.old past → answer.new ≡ answer_to past tick Km act.now }
     {
         match self {
             Slot::Dark(_) => *answer = Answer::Silent,
-            Slot::Live(port) => port.answer(tick, side, act, answer),
+            Slot::Live(port) => port.km_apart(tick, act, answer),
+        }
+    }
+
+    /// The port loses the console.
+    pub fn bid(&mut self, farewell: Farewell)
+        requires { IsSlot true farewell.port self.old }
+        ensures slot { IsSlot false farewell.port self.new }
+        ensures stands { (tick : ℕ) (past : List Item) → SlotStands self.old past
+            → SlotStands self.new (item tick Leaves ∷ past) }
+    {
+        match self {
+            Slot::Dark(_) => unreachable!(),
+            Slot::Live(port) => port.farewell(farewell),
         }
     }
 
@@ -47,9 +88,10 @@ impl Slot {
 
     /// The port awake. One that is awake already stays as it is.
     fn woken(self) -> Slot
-        ensures number { slot_number result ≡ slot_number self }
+        requires { IsTold false self }
+        ensures slot { (number : ℕ) → IsSlot false number self → IsSlot false number result }
         ensures stands { (past : List Item) (tick : ℕ) → is_live past ≡ false → SlotStands self past
-            → SlotStands result (record { tick = tick; concern = Wakes } ∷ past) }
+            → SlotStands result (item tick Wakes ∷ past) }
     {
         match self {
             Slot::Dark(port) => Slot::Live(port.wake()),
@@ -60,8 +102,8 @@ impl Slot {
     /// The port dark.
     fn darkened(self) -> Slot
         ensures number { slot_number result ≡ slot_number self }
-        ensures stands { (past : List Item) (tick : ℕ)
-            → SlotStands result (record { tick = tick; concern = Darkens } ∷ past) }
+        ensures told { IsTold false result }
+        ensures stands { (past : List Item) (tick : ℕ) → SlotStands result (item tick Darkens ∷ past) }
     {
         match self {
             Slot::Dark(port) => Slot::Dark(port),
@@ -80,9 +122,10 @@ impl Slot {
 
     /// Wakes the port, where it is dark.
     pub fn wake(&mut self)
-        ensures number { slot_number self.new ≡ slot_number self.old }
+        requires { IsTold false self.old }
+        ensures slot { (number : ℕ) → IsSlot false number self.old → IsSlot false number self.new }
         ensures stands { (past : List Item) (tick : ℕ) → is_live past ≡ false → SlotStands self.old past
-            → SlotStands self.new (record { tick = tick; concern = Wakes } ∷ past) }
+            → SlotStands self.new (item tick Wakes ∷ past) }
     {
         let port = self.take();
         *self = port.woken();
@@ -90,9 +133,8 @@ impl Slot {
 
     /// Darkens the port.
     pub fn darken(&mut self)
-        ensures number { slot_number self.new ≡ slot_number self.old }
-        ensures stands { (past : List Item) (tick : ℕ)
-            → SlotStands self.new (record { tick = tick; concern = Darkens } ∷ past) }
+        ensures slot { (number : ℕ) → IsSlot false number self.old → IsSlot false number self.new }
+        ensures stands { (past : List Item) (tick : ℕ) → SlotStands self.new (item tick Darkens ∷ past) }
     {
         let port = self.take();
         *self = port.darkened();

@@ -1,14 +1,16 @@
 //! The switch: its ports and its front, and the step that serves one event.
-ghost use Rattle.std.specs.Prelude.{◌≡◌, ℕ, ◌+◌, ◌-◌, ◌<◌, ◌≤◌, List, [], ◌∷◌, IfOk};
-ghost use Rattle.psd_base.specs.Event.{Seen, seen, happening_of, HappensWithin, AtFront, PanelMoves};
+ghost use Rattle.std.specs.Prelude.{◌≡◌, ℕ, ◌+◌, ◌-◌, ◌<◌, ◌≤◌, List, [], ◌∷◌, IfOk, IfSome, option_map};
+ghost use Rattle.psd_base.specs.Event.{Seen, seen, happening_of, HappensWithin, MovesWithin, AtFront, PanelMoves};
 ghost use Rattle.peripheral_filter.specs.declared.rule.RuleSet.{RuleSet};
 ghost use Rattle.switch_core.specs.FrontEvents.{FrontEvent, front_event, front_of};
-ghost use Rattle.switch_core.specs.FrontHealth.{IsKnownCheck};
+ghost use Rattle.switch_core.specs.Chosen.{selected_at, selections};
 ghost use Rattle.switch_core.specs.Gives.{gives_at, gives_of};
 ghost use Rattle.switch_core.specs.Notes.{front_notes, notes_at};
 ghost use Rattle.switch_core.specs.Orders.{orders_at};
 ghost use Rattle.switch_core.specs.SlotStands.{views_of};
 ghost use Rattle.switch_core.specs.PortsStand.{PortsStand, port_count};
+ghost use Rattle.switch_core.specs.SeatStands.{give_count};
+ghost use Rattle.switch_core.specs.PartsStand.{PartsStand};
 ghost use Rattle.switch_core.specs.Lines.{line_at};
 ghost use Rattle.switch_core.specs.FrontStands.{FrontLivesWithin, FrontStands};
 ghost use Rattle.switch_core.specs.Peripherals.{peripheral_orders};
@@ -17,6 +19,7 @@ use crate::front::Front;
 use crate::ports::Ports;
 use crate::turn::Turn;
 use fail_secure::HealthChange;
+use km_port::{Console, Owned};
 use peripheral_filter::RuleSet;
 use psd_base::console::{Notes, Orders, Panel};
 use psd_base::event::{EVENTS_MAX, Event, Tick, What};
@@ -30,6 +33,7 @@ pub struct Switch {
     front: Front,
     served: u32,
     ghost few_lives: { FrontLivesWithin served front },
+    ghost few_gives: { give_count ports.seat ≤ served },
 }
 
 impl Switch {
@@ -60,6 +64,17 @@ impl Switch {
         self.served
     }
 
+    /// The console of the selected port. None exactly where no port is selected. There is one console, which was given to
+    /// one port after the other: `gives` is the number of all selections so far.
+    pub fn console(&self) -> Option<&Console<Owned>>
+        ensures port { (rules : RuleSet) (past : List Seen) → StandsFor rules self.now past
+            → option_map (λ console. console.now.state.port) result ≡ selected_at rules (front_of past) }
+        ensures gives { (rules : RuleSet) (past : List Seen) → StandsFor rules self.now past
+            → IfSome result (λ console. console.now.gives ≡ selections rules (front_of past)) }
+    {
+        self.ports.console()
+    }
+
     /// Serves one event. The turn then has what the event gave, and nothing else. It takes no memory.
     pub fn step(&mut self, event: &Event, turn: &mut Turn)
         requires known { HappensWithin (port_total self.old) (happening_of event.now.what) }
@@ -81,15 +96,18 @@ impl Switch {
 fn serve(ports: &mut Ports, front: &mut Front, event: &Event, turn: &mut Turn)
     requires known { HappensWithin (port_count ports.old) (happening_of event.now.what) }
     requires lives { FrontLivesWithin (u32.MAX - 1) front.old }
+    requires gives { give_count ports.old.seat < u32.MAX }
     requires no_orders { turn.old.orders.items ≡ [] }
     requires no_notes { turn.old.notes.items ≡ [] }
     ensures count { port_count ports.new ≡ port_count ports.old }
-    ensures ports { (rules : RuleSet) (past : List Seen) → FrontStands rules front.old (front_of past)
-        → PortsStand ports.old (views_of rules past)
-        → PortsStand ports.new (views_of rules (seen event.now ∷ past)) }
+    ensures few { give_count ports.new.seat ≤ give_count ports.old.seat + 1 }
+    ensures ports { (rules : RuleSet) (past : List Seen) → PartsStand rules ports.old front.old past
+        → PortsStand ports.new (selected_at rules (front_of (seen event.now ∷ past))) (views_of rules (seen event.now ∷ past)) }
+    ensures gives { (rules : RuleSet) (past : List Seen) → PartsStand rules ports.old front.old past
+        → give_count ports.new.seat ≡ selections rules (front_of (seen event.now ∷ past)) }
     ensures front { (rules : RuleSet) (past : List Seen) → FrontStands rules front.old (front_of past)
         → FrontStands rules front.new (front_of (seen event.now ∷ past)) }
-    ensures line { (rules : RuleSet) (past : List Seen) → PortsStand ports.old (views_of rules past)
+    ensures line { (rules : RuleSet) (past : List Seen) → PartsStand rules ports.old front.old past
         → turn.new.line ≡ line_at rules (seen event.now) past }
     ensures orders { (rules : RuleSet) (past : List Seen) → FrontStands rules front.old (front_of past)
         → turn.new.orders.items ≡ orders_at rules (seen event.now) past }
@@ -104,7 +122,8 @@ fn serve(ports: &mut Ports, front: &mut Front, event: &Event, turn: &mut Turn)
         }
         What::Clock => {
             turn.drop_line();
-            let _ = front.clock(tick, &mut turn.orders, &mut turn.notes);
+            front.clock(tick, &mut turn.orders, &mut turn.notes);
+            ports.select(tick, front.selected());
         }
         What::Panel(panel) => {
             turn.drop_line();
@@ -123,7 +142,8 @@ fn serve(ports: &mut Ports, front: &mut Front, event: &Event, turn: &mut Turn)
         }
         What::Detach(plug) => {
             turn.drop_line();
-            front.detach(*plug, &mut turn.orders);
+            let shown = front.detach(*plug, &mut turn.orders);
+            ports.show(&shown);
         }
         What::Reply {
             plug,
@@ -150,7 +170,8 @@ fn serve(ports: &mut Ports, front: &mut Front, event: &Event, turn: &mut Turn)
             bytes,
         } => {
             turn.drop_line();
-            front.report(*plug, *interface, bytes);
+            let shown = front.report(*plug, *interface, bytes);
+            ports.show(&shown);
         }
     }
 }
@@ -165,14 +186,15 @@ fn serve_move(
     orders: &mut Orders,
     notes: &mut Notes,
 )
-    requires known { IsKnownCheck panel }
+    requires known { MovesWithin (port_count ports.old) panel }
     requires lives { FrontLivesWithin (u32.MAX - 1) front.old }
     requires no_orders { orders.old.items ≡ [] }
     requires no_notes { notes.old.items ≡ [] }
     ensures count { port_count ports.new ≡ port_count ports.old }
-    ensures ports { (rules : RuleSet) (past : List Seen) → FrontStands rules front.old (front_of past)
-        → PortsStand ports.old (views_of rules past) → PortsStand ports.new
-        (views_of rules (record { tick = tick; happening = AtFront (PanelMoves panel) } ∷ past)) }
+    ensures few { give_count ports.new.seat ≡ give_count ports.old.seat }
+    ensures ports { (rules : RuleSet) (past : List Seen) → let event : Seen = record { tick = tick; happening = AtFront (PanelMoves panel) } in
+        PartsStand rules ports.old front.old past
+        → PortsStand ports.new (selected_at rules (front_of (event ∷ past))) (views_of rules (event ∷ past)) }
     ensures front { (rules : RuleSet) (past : List FrontEvent) → FrontStands rules front.old past
         → FrontStands rules front.new (front_event tick (PanelMoves panel) ∷ past) }
     ensures orders { (rules : RuleSet) (past : List FrontEvent) → FrontStands rules front.old past

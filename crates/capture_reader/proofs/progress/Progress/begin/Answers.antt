@@ -1,5 +1,5 @@
 -- What is to come at the beginning is the schedule of the bytes that were left.
-use Rattle.std.proofs.Common.{◌≡◌, Option, option_map, IfErr, OnOk, ◌∙◌, ap, sym, subst}
+use Rattle.std.proofs.Common.{◌≡◌, false, Option, option_map, IfErr, OnOk, ◌∙◌, ap, sym, subst}
 use Rattle.std.proofs.lemmas.Result.{IfOk-weaker, IfErr-weaker}
 use Rattle.psd_base.specs.declared.outlet.Input.TheVariants as inputs
 use Rattle.capture_reader.specs.declared.script.ScriptSource.{ScriptSource}
@@ -80,3 +80,9 @@ returns-in-Ok-clause-first g c =
     first_of_all c.in-Ok.capture c.new-script.result (g.D.Desk.told c.args.desk.now) (g.D.Desk.told c.open.new.desk) (g.D.Desk.told c.first_line.new.desk) stop empty
     (c.open.ensures.only.inputs inputs.Script (λ same. cc)) c.in-Ok.ensures.took failed)
     c.first_line.ensures.first
+
+pub returns-in-Ok-clause-ends : goal.returns-in-Ok-clause-ends
+returns-in-Ok-clause-ends g c =
+    let unmet : c.new-script.result.window.ended ≡ false =
+    ap (λ (source : ScriptSource). source.window.ended) c.new-script.ensures ∙ ap (λ (window : Held). window.ended) c.requires.script in
+    c.first_line.ensures.ends c.in-Ok.ensures.ends (λ met. absurd (cc))

@@ -1,5 +1,5 @@
 -- What is to come behind the first line, and the first record.
-use Rattle.std.proofs.Common.{◌∙◌, Option, ap, sym, subst}
+use Rattle.std.proofs.Common.{◌∙◌, List, ℕ, Option, ap, sym, subst}
 use Rattle.std.proofs.lemmas.Result.{IfOk-weaker, IfErr-weaker}
 use Rattle.psd_base.specs.declared.outlet.Input.TheVariants as inputs
 use Rattle.capture_reader.specs.Lines.{lines_in, lines_with_ahead, later_lines_of}
@@ -8,6 +8,8 @@ use Rattle.capture_reader.specs.Reader.{rest, NewFailed}
 use Rattle.capture_reader.specs.Merge.{merged}
 use Rattle.capture_reader.specs.Schedule.{Schedule}
 use Rattle.capture_reader.specs.Source.{records_in, later_of}
+use Rattle.capture_reader.specs.declared.script.ScriptSource.{ScriptSource}
+use Rattle.capture_reader.specs.Window.{EndIsTrue}
 use Rattle.capture_reader.proofs.FirstLook.{script_failed, failed_since}
 use Rattle.capture_reader.proofs.FirstTaken.{first_took, first_since, script_first}
 use Rattle.capture_reader.proofs.Counting.{IfOk-both}
@@ -62,3 +64,16 @@ returns-in-Ok-clause-first g c =
 pub returns-in-Err-clause-first : goal.returns-in-Err-clause-first
 returns-in-Err-clause-first g c =
     script_first c.args.script c.look.new.self (records_in c.args.capture) (g.D.Desk.told c.args.desk.now) (g.D.Desk.told c.look.new.desk) c.in-Err.stop c.in-Err.ensures.none c.look.ensures.took c.in-Err.ensures.err
+
+pub returns-in-Ok-clause-ends : goal.returns-in-Ok-clause-ends
+returns-in-Ok-clause-ends g c capture_end script_end =
+    let looked = (g.D.Desk.told c.look.new.desk).left in
+    let left_after = (g.D.Desk.told c.first_record.new.desk).left in
+    let Capture : Option (List ℕ) → Type 0 = λ left. EndIsTrue c.args.capture.window left in
+    let Script : Option (List ℕ) → Type 0 = λ left. EndIsTrue c.look.new.self.window left in
+    let script_end_after = subst Script (sym (c.first_record.ensures.only.inputs inputs.Script (λ same. cc))) (c.look.ensures.ends script_end) in
+    IfOk-both c.first_record.result _ _ _ (λ progress end is. record {
+      capture = end;
+      script = subst (λ (source : ScriptSource). EndIsTrue source.window (left_after inputs.Script)) (sym is) script_end_after;
+    })
+    (c.first_record.ensures.ends (subst Capture (sym (c.look.ensures.only.inputs inputs.Capture (λ same. cc))) capture_end)) c.first_record.ensures.script

@@ -5,6 +5,7 @@ use Rattle.psd_base.specs.declared.stop.Stop.TheVariants as stops
 use Rattle.capture_reader.specs.declared.progress.State.{State}
 use Rattle.capture_reader.specs.Progress.{given_in}
 use Rattle.capture_reader.specs.Ahead.{ahead_of, line_of}
+use Rattle.capture_reader.proofs.Ends.{ends_are_met}
 use Rattle.capture_reader.proofs.Merging.{end_step}
 use Rattle.capture_reader.proofs.Upcoming.{only_stops, record_given, line_given, record_refused, line_refused, refused_rest, nothing_comes}
 use Rattle.capture_reader.proofs.Giving.{gave, gave_record, gave_line, gave_nothing, gave_same}
@@ -50,6 +51,12 @@ returns-in-End-clause-end c is =
     let now = c.args.self.now in
     let none = end_step (ahead_of now.capture.ahead) (line_of now.script.ahead) (sym c.next_source.ensures ∙ c.in-End.is) in
     (refl, none.0, none.1, nothing_comes now c.requires.sound c.requires.waiting none.0 none.1)
+
+pub returns-in-End-clause-met : goal.returns-in-End-clause-met
+returns-in-End-clause-met c is =
+    let now = c.args.self.now in
+    let none = end_step (ahead_of now.capture.ahead) (line_of now.script.ahead) (sym c.next_source.ensures ∙ c.in-End.is) in
+    ends_are_met now c.requires.sound c.requires.waiting none.0 none.1
 
 pub returns-in-Record-clause-took : goal.returns-in-Record-clause-took
 returns-in-Record-clause-took c told =

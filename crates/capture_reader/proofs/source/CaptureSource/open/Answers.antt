@@ -1,9 +1,9 @@
 -- The bytes that were left hold the header, and the records behind it.
-use Rattle.std.proofs.Common.{Ok, Err, ap, sym, ◌∙◌}
+use Rattle.std.proofs.Common.{◌≡◌, false, Ok, Err, ap, sym, ◌∙◌, subst}
 use Rattle.std.proofs.lemmas.Result.{IfOk-weaker, IfErr-weaker}
 use Rattle.psd_base.specs.declared.outlet.Input.TheVariants as inputs
 use Rattle.capture_reader.specs.Source.{later}
-use Rattle.capture_reader.specs.Window.{Held, still}
+use Rattle.capture_reader.specs.Window.{EndIsTrue, Held, still}
 use Rattle.capture_reader.proofs.Opening.{all_is, header_told, header_cut, records_told, open_failed}
 use Rattle.capture_reader.proofs.Counting.{IfOk-both}
 use Rattle.capture_reader.proofs.FirstTaken.{opened, none_opened, capture_stop_first}
@@ -67,3 +67,10 @@ pub returns-in-Err-clause-first : goal.returns-in-Err-clause-first
 returns-in-Err-clause-first g c =
     none_opened c.args.window c.hold.new.self ((g.D.Desk.told c.args.desk.now).left inputs.Capture) ((g.D.Desk.told c.hold.new.desk).left inputs.Capture) c.hold.ensures.took
     (ap (λ (window : Held). window.bytes) c.requires) c.in-Err.ensures.short
+
+pub returns-in-Ok-true-clause-ends : goal.returns-in-Ok-true-clause-ends
+returns-in-Ok-true-clause-ends g c =
+    let left_after = (g.D.Desk.told c.hold.new.desk).left inputs.Capture in
+    let unmet : c.args.window.ended ≡ false = ap (λ (window : Held). window.ended) c.requires in
+    let ends : EndIsTrue c.hold.new.self left_after = c.hold.ensures.ends (λ met. absurd (cc)) in
+    IfOk-weaker c.behind_header.result _ _ (λ source is. subst (λ (window : Held). EndIsTrue window left_after) (sym is.1) ends) c.behind_header.ensures.behind

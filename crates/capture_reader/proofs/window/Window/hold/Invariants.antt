@@ -1,7 +1,7 @@
 -- What comes stays the same, and what is held grows. The measure is what is wanted and not held.
 use Rattle.std.proofs.Common.{true, ◌≡◌, ◌+◌, ◌-◌, length, if◌then◌else◌}
 use Rattle.psd_base.specs.Desk.{OnlyReads}
-use Rattle.capture_reader.specs.Window.{HeldMore, still, Begins}
+use Rattle.capture_reader.specs.Window.{EndIsTrue, HeldMore, still, Begins}
 use Rattle.capture_reader.proofs.window.Window.hold.Given as goal
 
 abbrev pub invariant-reads : goal.invariant-reads
@@ -9,6 +9,7 @@ invariant-reads g l = record {
   still : still l.self ((g.D.Desk.told l.desk).left l.from) ≡ still l.initial.self ((g.D.Desk.told l.initial.desk).left l.from);
   took : HeldMore l.initial.self l.self ((g.D.Desk.told l.initial.desk).left l.from) ((g.D.Desk.told l.desk).left l.from);
   unread : l.initial.self.ended ≡ true → (l.self ≡ l.initial.self) × (l.desk ≡ l.initial.desk);
+  ends : EndIsTrue l.initial.self ((g.D.Desk.told l.initial.desk).left l.from) → EndIsTrue l.self ((g.D.Desk.told l.desk).left l.from);
   front : Begins l.initial.self.bytes l.self.bytes;
   only : OnlyReads l.from (g.D.Desk.told l.initial.desk) (g.D.Desk.told l.desk);
 }

@@ -3,7 +3,7 @@ use Rattle.std.proofs.Common.{◌≡◌, ℕ, ◌+◌, ◌-◌, nat_eq, take, sl
 use Rattle.std.specs.Vec.{with_items}
 use Rattle.std.proofs.lemmas.List.{with_items_is}
 use Rattle.capture_reader.specs.Window.{Held, still}
-use Rattle.capture_reader.proofs.DeskReads.{still_after_read, all_read}
+use Rattle.capture_reader.proofs.DeskReads.{still_after_read, all_read, end_after_read}
 use Rattle.capture_reader.proofs.window.Window.refill.Goals as goal
 
 pub returns-clause-still : goal.returns-clause-still
@@ -35,3 +35,10 @@ returns-clause-took g c =
       left_is = c.in_ok-count.ensures.moved;
       held_is = ap (λ items. slice_range items 0 (held + count)) same ∙ all_read buffer now.bytes held count front;
     }
+
+pub returns-clause-ends : goal.returns-clause-ends
+returns-clause-ends g c =
+    let w = c.self.inside in
+    let count : ℕ = c.in_ok-count.count in
+    end_after_read c.read_behind.new.buffer (w.end - w.start) count ((g.D.Desk.told c.args.desk.now).left c.args.from) ((g.D.Desk.told c.read_behind.new.desk).left c.args.from)
+    c.in_ok-count.ensures.moved (λ empty. c.in_ok-count.ensures.ended (ap Ok empty))

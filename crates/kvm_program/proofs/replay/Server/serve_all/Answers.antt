@@ -17,8 +17,9 @@ pub returns-clause-finished : goal.returns-clause-finished
 returns-clause-finished g c = λ rules schedule sent so_far.
     let ended = ap Ok c.if-branch.false in
     let idle = c.in_ok-serve_next.ensures.idle ended in
-    Finished-over rules schedule _ sent (g.D.Desk.told c.events.desk) (g.D.Desk.told c.serve_next.new.desk) _ _ _ _
+    Finished-over rules schedule sent _ (g.D.Desk.told c.events.desk) (g.D.Desk.told c.serve_next.new.desk) _ _ _ _
     (c.events.invariant.going rules (Some schedule) sent so_far) (c.in_ok-serve_next.ensures.ended ended) idle.0 idle.1 idle.2
+    (c.in_ok-serve_next.ensures.drained ended (c.events.invariant.going rules (Some schedule) sent so_far).ends)
 
 pub events-preserved : goal.events-preserved
 events-preserved g c =

@@ -11,7 +11,10 @@ use Rattle.selector.specs.Moments.{Moment, Ticked}
 use Rattle.selector.specs.SelectorStands.{SelectorStands}
 use Rattle.console_plug.specs.Moments as at_plug
 use Rattle.console_plug.specs.PlugGives as plug
-use Rattle.switch_core.specs.Chosen.{moments_in}
+use Rattle.peripheral_filter.specs.declared.rule.RuleSet.{RuleSet}
+use Rattle.switch_core.specs.Chosen.{moments_in, move_at}
+use Rattle.switch_core.specs.FrontEvents.{FrontEvent}
+use Rattle.switch_core.specs.FrontStands.{FrontStands}
 use Rattle.switch_core.specs.Notes.{move_notes}
 use Rattle.switch_core.specs.Peripherals.{peripheral_notes, peripheral_orders, plug_history, shows_nothing}
 use Rattle.switch_core.specs.PeripheralsStand.{PeripheralsStand}
@@ -41,8 +44,8 @@ asked_alike : (alive : Bool) (result : Move) (moments asked : List Moment)
 asked_alike true result moments asked is = is
 asked_alike false result moments asked is = is
 
-pub returns-clause-answer : goal.returns-clause-answer
-returns-clause-answer c = λ rules past g.
+moved_as : (c : goal.After-note_move) → (rules : RuleSet) (past : List FrontEvent) → FrontStands rules c.args.self.now past → c.look-change.result ≡ move_at rules c.args.tick past
+moved_as c = λ rules past g.
     let shown_at = subst (λ (p : Peripherals). PeripheralsStand rules p (plug_history Keyboard past) (plug_history Mouse past)) (sym c.deref.ensures) g.peripherals in
     let shown = c.shows_nothing-all_up.ensures rules _ _ shown_at in
     let moments = moments_in rules past in
@@ -60,7 +63,7 @@ pub returns-clause-notes : goal.returns-clause-notes
 unfolding peripheral_notes
 returns-clause-notes c = λ rules past g.
     let inside = subst (λ (p : Peripherals). PeripheralsStand rules p (plug_history Keyboard past) (plug_history Mouse past)) (sym c.deref_mut.ensures.value) g.peripherals in
-    let moved = ap move_notes (returns-clause-answer c rules past g) ∙ move_notes-at rules past c.args.tick in
+    let moved = ap move_notes (moved_as c rules past g) ∙ move_notes-at rules past c.args.tick in
     c.note_move.ensures
     ∙ ap (λ (notes : List Note). notes ++ move_notes c.look-change.result) (c.clock.ensures.notes rules _ _ inside)
     ∙ ap (λ (notes : List Note). (plug.notes_at Keyboard rules (at_plug.Ticked c.args.tick) (plug_history Keyboard past) ++ plug.notes_at Mouse rules (at_plug.Ticked c.args.tick) (plug_history Mouse past)) ++ notes) moved

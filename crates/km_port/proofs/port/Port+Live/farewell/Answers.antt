@@ -1,0 +1,22 @@
+-- The keyboard and the mouse part.
+use Rattle.std.proofs.Common.{◌∷◌, ◌∙◌, true, sym, subst}
+use Rattle.emulated_keyboard.specs.Delivery as typed
+use Rattle.emulated_keyboard.specs.KeyboardStands.{KeyboardStands}
+use Rattle.emulated_mouse.specs.Delivery as moved
+use Rattle.emulated_mouse.specs.MouseStands.{MouseStands}
+use Rattle.km_port.specs.OnePort.{parts_of}
+use Rattle.km_port.proofs.Showing.{typed-at, moved-at}
+use Rattle.km_port.proofs.port.Port+Live.farewell.Goals as goal
+
+pub returns-clause-stands : goal.returns-clause-stands
+returns-clause-stands c = λ tick past stands.
+    let keys = typed-at typed.Left (parts_of past).keys true (sym stands.parts.keyboard.entered ∙ c.requires.entered.keyboard) in
+    let pointer = moved-at moved.Left (parts_of past).pointer true (sym stands.parts.mouse.entered ∙ c.requires.entered.mouse) in
+    record {
+      live = stands.live;
+      parts = record {
+        control = stands.parts.control;
+        keyboard = rw keys (c.part.ensures.keyboard (typed.sides_of (parts_of past).keys).keyboard (rw c.function_mut.ensures.value stands.parts.keyboard));
+        mouse = rw pointer (c.part.ensures.mouse (moved.sides_of (parts_of past).pointer).mouse (rw c.function_mut.ensures.value stands.parts.mouse));
+      };
+    }
