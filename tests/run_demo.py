@@ -32,7 +32,7 @@ pathlib.Path("console.txt").write_text(f"1 KEYBOARD ON {TOLD}\\n")
 print("events 0")
 """
 # the session's capture has more bytes, and the one without port 2's acts has fewer
-ACTS = "int(len(data) > 1700)"
+ACTS = "int(len(data) > 1900)"
 HONEST, LEAKING, TELLING = (STAND_IN.replace("LEAK", leak).replace("TOLD", told) for leak, told in (("1", "1"), (ACTS, "1"), ("1", ACTS)))
 
 

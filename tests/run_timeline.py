@@ -213,6 +213,16 @@ p check passed   x check failed, case opened   o let in   X refused
 """
 
 
+def check_token():
+    """The spans in which a port has the token begin where it is routed and end where its power goes off."""
+    with tempfile.TemporaryDirectory(prefix="timeline-") as name:
+        folder = pathlib.Path(name)
+        session_folder(SESSIONS / "two-computers-use-the-token", folder)
+        spans = [(first, last) for band in page_of(folder).data["bands"] for first, last, kind, *_ in band["spans"]
+                 if list(looks.SPANS)[kind] == "routed"]
+        expect(spans == [(110, 250), (2401, 2412), (1251, 1400)], f"the spans are {spans}")
+
+
 def check_part():
     """With --from and --to only what lies between them is drawn."""
     with tempfile.TemporaryDirectory(prefix="timeline-") as name:
@@ -382,8 +392,8 @@ def cases():
     for session in sorted(SESSIONS.iterdir()):
         if (session / "expect" / "rules.log").exists():
             yield session.name, lambda session=session: check_session(session)
-    yield from (("made run", check_made), ("part of a run", check_part), ("100,000 acts", check_many), ("too many for lines", check_no_lines),
-                ("names", check_names), ("faulty inputs", check_cut), ("help", check_help), ("unwritable", check_unwritable),
+    yield from (("made run", check_made), ("a token", check_token), ("part of a run", check_part), ("100,000 acts", check_many),
+                ("too many for lines", check_no_lines), ("names", check_names), ("faulty inputs", check_cut), ("help", check_help), ("unwritable", check_unwritable),
                 ("forms", check_forms))
     for fault in FAULTS:
         yield fault[2], lambda fault=fault: check_fault(*fault)

@@ -123,7 +123,7 @@ COMPLETIONS = [
     ("kvm", ["kvm", "r"], "replay"), ("kvm", ["kvm", ""], "replay check"), ("kvm", ["kvm", "replay", ""], ""),
     ("kvc", ["kvc", "s"], "show select"), ("kvc", ["kvc", "device", ""], "keyboard mouse token --help"),
     ("kvc", ["kvc", "make", "--ports", ""], "2 3 4 5 6 7 8"), ("kvc", ["kvc", "press", "print"], "print-screen"),
-    ("kvc", ["kvc", "show", "--w"], "--whole-format"), ("kvm_judge", ["kvm-judge", "m"], "mouse"),
+    ("kvc", ["kvc", "show", "--e"], "--explain"), ("kvm_judge", ["kvm-judge", "m"], "mouse"),
     ("kvm_judge", ["kvm-judge", "mouse", "a"], "a b.hex"), ("kvm_check_rules", ["kvm-check-rules", "-"], "--quiet --program --help"),
 ]
 

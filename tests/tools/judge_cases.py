@@ -1,4 +1,4 @@
-"""Cases of tools/judge: the verdicts are the program's, so they need one that has the keyboard's and the mouse's plug."""
+"""Cases of tools/judge: the verdicts are the program's."""
 import stat
 
 from harness import DEVICES, TOP, has, program, room, run, same, tool
@@ -6,6 +6,7 @@ from harness import DEVICES, TOP, has, program, room, run, same, tool
 EXAMPLE = TOP / "examples" / "rules" / "rules.toml"
 KEYBOARD, KEYS = DEVICES / "keyboard.hex", DEVICES / "keyboard-report.hex"
 MOUSE, MOTION = DEVICES / "mouse.hex", DEVICES / "mouse-report.hex"
+TOKEN = DEVICES / "token.hex"
 MEDIA = [DEVICES / "keyboard-with-media-keys.hex", "--report", KEYS, "--report", DEVICES / "media-keys-report.hex"]
 
 #: The words, the status, and the lines that begin a paragraph with the step that judged.
@@ -31,6 +32,10 @@ VERDICTS = [
     (["mouse", KEYBOARD, "--report", KEYS], 1, [
         "interface 0: refused by F07 no usable field", "    judged at step 6: the report descriptor of interface 0",
         "refused by F07 no usable field: none of its interfaces is accepted"]),
+    (["token", TOKEN], 0, ["accepted"]),
+    (["token", TOKEN, "--rules", EXAMPLE], 0, ["accepted"]),
+    (["token", KEYBOARD], 1, ["refused by F04 no interface for the connector", "    judged at step 4: the configuration"]),
+    (["keyboard", TOKEN], 1, ["refused by F04 no interface for the connector", "    judged at step 4: the configuration"]),
 ]
 
 
@@ -129,8 +134,7 @@ def try_trouble_is_no_verdict():
                 ([*device, "--report", KEYS, "--rules", folder / "rules.toml"], "rules.toml: the rules are refused (rules shape root 0)"),
                 ([*device, "--report", KEYS, "--rules", folder / "none"], "none: No such file or directory"),
                 (["keyboard", folder / "none"], "none: No such file or directory"),
-                (["keybord", KEYBOARD], "invalid choice: 'keybord'"),
-                (["token", KEYBOARD], "this program has no token plug yet, so it has no verdict")):
+                (["keybord", KEYBOARD], "invalid choice: 'keybord'")):
             done = judged(*words)
             same(f"{words}", (done.status, done.out), (2, b""))
             has(f"{words}", done.err, wanted)

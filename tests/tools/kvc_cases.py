@@ -6,7 +6,7 @@ import random
 
 from harness import DEVICES, TOP, TOOLS, Wrong, example_after, has, program, room, run, same, tool
 from kvm_tools import capture, capture_text, session_text
-from kvm_tools.capture import ALL_PLUGS, BUILT_PLUGS, CaptureFault, Connector, Kind, Record, Side
+from kvm_tools.capture import CaptureFault, Connector, Kind, Record, Side
 
 MADE = 10_000
 SPOILT = 3_000
@@ -24,19 +24,19 @@ def captures():
     return found
 
 
-def fault_of(data, plugs=BUILT_PLUGS):
+def fault_of(data):
     """The fault line of a capture, or nothing."""
     try:
         file = io.BytesIO(data)
-        for _ in capture.read_records(file, capture.read_header(file), plugs):
+        for _ in capture.read_records(file, capture.read_header(file)):
             pass
     except CaptureFault as fault:
         return f"{fault}\n"
     return ""
 
 
-def text_of(data, plugs=BUILT_PLUGS):
-    return "".join(f"{line}\n" for line, _ in capture_text.lines_of(io.BytesIO(data), plugs))
+def text_of(data):
+    return "".join(f"{line}\n" for line, _ in capture_text.lines_of(io.BytesIO(data)))
 
 
 def bytes_of(text):
@@ -60,7 +60,7 @@ def made_record(random_one, tick, ports):
 
 
 def made_capture(random_one):
-    """A right capture of the whole format, and its records."""
+    """A right capture, and its records."""
     ports, tick, records = random_one.randint(2, 8), 0, []
     for _ in range(random_one.randint(0, 12)):
         tick = min(capture.TICK_MAX, tick + random_one.choice([0, 0, 1, 5, 2**31]))
@@ -104,10 +104,10 @@ def try_made_captures_come_back():
     random_one = random.Random(1)
     for number in range(MADE):
         data, records = made_capture(random_one)
-        text = text_of(data, ALL_PLUGS)
+        text = text_of(data)
         same(f"capture {number}", bytes_of(text), data)
         same(f"the lines of capture {number}", text.count("\n"), 1 + len(records))
-        shown = [record for _, record in capture_text.lines_of(io.BytesIO(data), ALL_PLUGS) if record]
+        shown = [record for _, record in capture_text.lines_of(io.BytesIO(data)) if record]
         same(f"the records of capture {number}", shown, records)
 
 
@@ -174,20 +174,16 @@ def try_the_documented_text_is_right():
     same("its front", bytes_of("\n".join(lines[:-2])), wanted[:-8])
 
 
-def try_token_records_are_beyond_the_program():
+def try_records_of_the_token():
     text = b"KVC1 PORTS 2\n0 TOKEN ATTACH\n0 TOKEN REPLY 1 1 0 -\n5 TOKEN DONE 1 1 3 0102\n6 TOKEN DETACH\n"
-    with room() as folder:
-        made = tool("kvc", "make", "-o", folder / "token.kvc", stdin=text)
-        same("make", (made.status, made.out), (0, b""))
-        has("make", made.err, "standard input:2: note: the program doesn't know this record yet and stops there with bad-who")
-        shown = tool("kvc", "show", folder / "token.kvc")
-        same("show", shown.status, 1)
-        has("show", shown.err, "token.kvc: capture 8 bad-who: who 03 at kind 20\n")
-        has("show", shown.err, "--whole-format takes it")
-        whole = tool("kvc", "show", "--whole-format", folder / "token.kvc")
-        same("show --whole-format", (whole.status, whole.err, whole.out), (0, "", text))
-    done = tool("kvc", "make", stdin=b"KVC1 PORTS 2\n5 TOKEN DONE 1 1 3 -\n")
-    has("make of a job's answer", done.err, "stops there with bad-kind")
+    made = tool("kvc", "make", stdin=text)
+    same("make", (made.status, made.err), (0, ""))
+    shown = tool("kvc", "show", stdin=made.out)
+    same("show", (shown.status, shown.err, shown.out), (0, "", text))
+    explained = tool("kvc", "show", "--explain", stdin=made.out)
+    has("show --explain", explained.text, "5 TOKEN DONE 1 1 3 0102  # life 1, number 1, not ready, 2 bytes\n")
+    report = tool("kvc", "show", stdin=capture.header_bytes(2) + capture.pack(1, Kind.REPORT.number, 3, bytes(1)))
+    has("a report of the token", report.err, "capture 8 bad-who: who 03 at kind 23\n")
 
 
 REFUSED_TEXTS = """

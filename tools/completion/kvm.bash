@@ -31,7 +31,7 @@ _kvc() {
         return
     fi
     case ${COMP_WORDS[1]} in
-        show) _kvm_options_or_files "--explain --whole-format --help" ;;
+        show) _kvm_options_or_files "--explain --help" ;;
         make)
             if [[ $before == --ports ]]; then _kvm_words "2 3 4 5 6 7 8"
             else _kvm_options_or_files "--output --script --sort --ports --help"; fi

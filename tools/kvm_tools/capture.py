@@ -1,14 +1,13 @@
 """The capture format KVC1: records as values and as bytes, and the faults that the program names.
 
-docs/FORMATS.md says what it is. The format has a record for the token too; what the program knows of it so far is the
-one line BUILT_PLUGS.
+docs/FORMATS.md says what it is.
 """
 from __future__ import annotations
 
 import enum
 import struct
 from dataclasses import dataclass
-from typing import BinaryIO, Collection, Iterator, NamedTuple
+from typing import BinaryIO, Iterator, NamedTuple
 
 MAGIC = b"KVC1"
 HEADER_SIZE = 8
@@ -26,10 +25,6 @@ class Plug(enum.Enum):
     MOUSE = 2
     TOKEN = 3
 
-
-#: The plugs that the program has. A record of another is refused: by its kind where no plug that it has takes part in
-#: such a record, and else by who acts.
-BUILT_PLUGS = frozenset({Plug.KEYBOARD, Plug.MOUSE})
 
 ALL_PLUGS = frozenset(Plug)
 NO_PLUGS: frozenset[Plug] = frozenset()
@@ -120,8 +115,6 @@ class CaptureFault(Exception):
         self.detail = detail
         #: what was read from the offset on
         self.taken = taken
-        #: whether the format has the record, and the program alone doesn't
-        self.beyond = False
 
 
 class Refused(Exception):
@@ -168,8 +161,8 @@ def read_header(file: BinaryIO) -> int:
     return header[4]
 
 
-def read_records(file: BinaryIO, ports: int, plugs: Collection[Plug] = BUILT_PLUGS) -> Iterator[Record]:
-    """Reads the records behind a header, up to the end or the first fault. `plugs` are those that are known."""
+def read_records(file: BinaryIO, ports: int) -> Iterator[Record]:
+    """Reads the records behind a header, up to the end or the first fault."""
     offset, last = HEADER_SIZE, 0
     while head := file.read(HEAD.size):
         payload = b""
@@ -177,37 +170,35 @@ def read_records(file: BinaryIO, ports: int, plugs: Collection[Plug] = BUILT_PLU
             if len(head) < HEAD.size:
                 raise Refused("truncated", f"a record begins with 8 bytes, and {len(head)} are left")
             tick, number, who, length = HEAD.unpack(head)
-            kind, actor = announced(ports, last, tick, number, who, plugs)
+            kind, actor = announced(ports, last, tick, number, who)
             check_length(kind, length)
             payload = file.read(length)
             if len(payload) < length:
                 raise Refused("truncated", f"the payload has {length} bytes, and {len(payload)} are left")
             yield Record(tick, kind, actor, *fields_of(kind, payload))
         except Refused as refused:
-            fault = CaptureFault(offset, refused.why, refused.detail, head + payload)
-            fault.beyond = len(head) == HEAD.size and is_beyond(ports, last, head, plugs)
-            raise fault from None
+            raise CaptureFault(offset, refused.why, refused.detail, head + payload) from None
         offset, last = offset + len(head) + length, tick
 
 
-def announced(ports: int, last: int, tick: int, number: int, who: int, plugs: Collection[Plug]) -> tuple[Kind, Actor]:
+def announced(ports: int, last: int, tick: int, number: int, who: int) -> tuple[Kind, Actor]:
     """What a record's head announces after a record of tick `last`, or the first of its checks that fails."""
     if tick < last:
         raise Refused("tick-back", f"tick {tick} is below {last}, that of the record before")
     kind = KINDS.get(number)
-    if kind is None or (kind.plugs and kind.plugs.isdisjoint(plugs)):
+    if kind is None:
         raise Refused("bad-kind", f"kind {number:02x}")
-    return kind, actor_of(kind, ports, who, plugs)
+    return kind, actor_of(kind, ports, who)
 
 
-def actor_of(kind: Kind, ports: int, who: int, plugs: Collection[Plug]) -> Actor:
+def actor_of(kind: Kind, ports: int, who: int) -> Actor:
     """Who acts in a record of this kind."""
     if kind is Kind.CLOCK:
         if who:
             raise Refused("bad-who", f"who {who:02x} at a clock, where nobody acts (00)")
         return None
     if kind.plugs:
-        for plug in kind.plugs.intersection(plugs):
+        for plug in kind.plugs:
             if plug.value == who:
                 return plug
         raise Refused("bad-who", f"who {who:02x} at kind {kind.number:02x}")
@@ -236,13 +227,3 @@ def fields_of(kind: Kind, payload: bytes) -> tuple[tuple[int, ...], bytes]:
         values.append(value)
         at += field.size
     return tuple(values), payload[at:]
-
-
-def is_beyond(ports: int, last: int, head: bytes, plugs: Collection[Plug]) -> bool:
-    """Whether the format has a record with such a head, and not the program."""
-    tick, number, who, _ = HEAD.unpack(head)
-    try:
-        kind, actor = announced(ports, last, tick, number, who, ALL_PLUGS)
-    except Refused:
-        return False
-    return isinstance(actor, Plug) and actor not in plugs

@@ -9,7 +9,7 @@ from dataclasses import dataclass
 from typing import BinaryIO, Collection, Iterator
 
 from kvm_tools import capture, script
-from kvm_tools.capture import BUILT_PLUGS, CaptureFault, Connector, Kind, Plug, Record, Side
+from kvm_tools.capture import CaptureFault, Connector, Kind, Plug, Record, Side
 
 #: How many bytes a line of bytes shows.
 BYTES_IN_LINE = 32
@@ -73,12 +73,12 @@ def raw_lines(data: bytes) -> Iterator[str]:
         yield f"BYTES {data[at:at + BYTES_IN_LINE].hex()}"
 
 
-def lines_of(file: BinaryIO, plugs: Collection[Plug] = BUILT_PLUGS) -> Iterator[tuple[str, Record | CaptureFault | None]]:
+def lines_of(file: BinaryIO) -> Iterator[tuple[str, Record | CaptureFault | None]]:
     """The lines of a capture, each with the record that it shows. Behind the line of a fault stand the bytes from there on."""
     try:
         ports = capture.read_header(file)
         yield header_line(ports), None
-        for record in capture.read_records(file, ports, plugs):
+        for record in capture.read_records(file, ports):
             yield record_line(record), record
     except CaptureFault as fault:
         yield f"# {fault}: {fault.detail}", fault
@@ -200,8 +200,3 @@ def read_bytes(words: list[str], what: str) -> bytes:
         return bytes.fromhex(" ".join(words))
     except ValueError:
         raise TextFault(f"'{' '.join(words)}' isn't bytes in hexadecimal") from None
-
-
-def known_to_program(record: Record) -> bool:
-    """Whether the program knows such a record."""
-    return not isinstance(record.actor, Plug) or record.actor in BUILT_PLUGS

@@ -4,7 +4,7 @@ from __future__ import annotations
 from typing import BinaryIO, Iterator
 
 from kvm_tools import capture, capture_text
-from kvm_tools.capture import BUILT_PLUGS, Connector, Record
+from kvm_tools.capture import Connector, Record
 from kvm_tools.capture_text import Header, Line, Raw, ScriptLine, TextFault
 
 NO_HEADER = "the header is missing: 'KVC1 PORTS N' at the front, or --ports N"
@@ -25,15 +25,13 @@ class Reader:
         self.capture = bytearray(capture.header_bytes(ports) if ports else b"")
         self.script: list[str] = []
         self.tick, self.script_tick = 0, 0
-        #: the place of the first record that the format has and the program doesn't know, and its fault
-        self.unknown: tuple[str, str] | None = None
 
     def read(self, file: BinaryIO, in_order: bool = False) -> None:
         """Reads a whole text, in the order of its lines, or in that of their ticks."""
         lines = self.lines_in(file)
         for place, line in sorted(lines, key=order_of) if in_order else lines:
             try:
-                self.take(place, line)
+                self.take(line)
             except TextFault as fault:
                 raise Fault(f"{place}: {fault}") from None
         if not self.begun:
@@ -52,7 +50,7 @@ class Reader:
             if line:
                 yield place, line
 
-    def take(self, place: str, line: Line) -> None:
+    def take(self, line: Line) -> None:
         match line:
             case Header():
                 self.take_header(line)
@@ -62,7 +60,7 @@ class Reader:
             case ScriptLine():
                 self.take_script(line)
             case Record():
-                self.take_record(place, line)
+                self.take_record(line)
 
     def take_header(self, line: Header) -> None:
         if self.begun:
@@ -70,7 +68,7 @@ class Reader:
         self.begun, self.ports = True, line.ports
         self.capture += capture.header_bytes(line.ports)
 
-    def take_record(self, place: str, record: Record) -> None:
+    def take_record(self, record: Record) -> None:
         if not self.begun:
             raise TextFault(NO_HEADER)
         if isinstance(record.actor, Connector):
@@ -79,8 +77,6 @@ class Reader:
             raise TextFault(f"tick {record.tick} is below {self.tick}, that of the record before")
         self.tick = record.tick
         self.capture += capture.record_bytes(record)
-        if not self.unknown and not capture_text.known_to_program(record):
-            self.unknown = (place, "bad-kind" if record.kind.plugs.isdisjoint(BUILT_PLUGS) else "bad-who")
 
     def take_script(self, line: ScriptLine) -> None:
         if not self.takes_script:

@@ -1,10 +1,11 @@
 -- The bridge's definitions at work on small sessions, each computed: each step's answer, and the job that it makes.
-use Rattle.std.specs.Prelude.{◌≡◌, true, false, List, [], ◌∷◌, refl}
+use Rattle.std.specs.Prelude.{◌≡◌, true, false, List, [], ◌∷◌, Some, None, refl}
 use Rattle.psd_base.specs.Setup.{setup_of}
 use Rattle.psd_base.specs.declared.act.Act.TheVariants as act
+use Rattle.psd_base.specs.declared.act.Answer.TheVariants as answer
 use Rattle.psd_base.specs.declared.console.JobKind.TheVariants as job
-use Rattle.auth_router.specs.Entries.{Acted, Entry}
-use Rattle.auth_router.specs.Bridge.{entry_for, takes, history_of}
+use Rattle.auth_router.specs.Entries.{BridgeItem, Acted, Entry}
+use Rattle.auth_router.specs.Bridge.{entry_for, takes, history_of, IsDown, IsUp, bridge_answer, bridge_made, bridge_jobs, bridge_takes, after_done}
 use Rattle.auth_router.proofs.Sessions.{Ack, Nak, Stall, Silent, Data, Asks, Sends, session, small, large, asks, polls, sends, done, control, device, get_device, write_three, no_bytes, get_eight, set_configuration, set_interface, set_address}
 
 -- GET_DESCRIPTOR: the job is made at the first IN; the answer comes in packets of 8 bytes
@@ -228,8 +229,11 @@ nothing_before_a_setup : session small (polls 0 true ∷ sends 0 true [] ∷ Act
 nothing_before_a_setup = refl
 
 -- a word is taken only once, and only where a job is outstanding
+abbrev asked_items : List BridgeItem
+asked_items = polls 0 true ∷ asks get_device ∷ []
+
 abbrev asked : List Entry
-asked = history_of small (polls 0 true ∷ asks get_device ∷ [])
+asked = history_of small asked_items
 
 first_is_taken : takes 1 asked ≡ true
 first_is_taken = refl
@@ -242,3 +246,32 @@ second_is_not = refl
 
 none_before_a_job : takes 0 [] ≡ false
 none_before_a_job = refl
+
+-- nor one of another life, which changes nothing, or while the bridge is down
+this_life_is_heard : bridge_takes 1 1 (IsUp small asked_items) ≡ true
+this_life_is_heard = refl
+
+another_life_is_not : bridge_takes 2 1 (IsUp small asked_items) ≡ false
+another_life_is_not = refl
+
+another_life_changes_nothing : after_done 2 1 0 device (IsUp small asked_items) ≡ IsUp small asked_items
+another_life_changes_nothing = refl
+
+no_life_is_heard_while_down : bridge_takes 1 1 IsDown ≡ false
+no_life_is_heard_while_down = refl
+
+silent_while_down : bridge_answer IsDown (act.Setup 0 (setup_of get_device)) ≡ answer.Silent
+silent_while_down = refl
+
+no_job_while_down : bridge_made IsDown (act.In 0 0 true) ≡ None
+no_job_while_down = refl
+
+-- jobs have the life and a number from 1 on
+first_job : bridge_made (IsUp small (asks get_device ∷ [])) (act.In 0 0 true) ≡ Some (record { life = 1; number = 1; kind = control get_device [] })
+first_job = refl
+
+second_job : bridge_made (IsUp small (asks no_bytes ∷ done 1 0 device ∷ asked_items)) (act.In 0 0 true) ≡ Some (record { life = 1; number = 2; kind = control no_bytes [] })
+second_job = refl
+
+one_job_so_far : bridge_jobs (IsUp small (asks no_bytes ∷ done 1 0 device ∷ asked_items)) ≡ 1
+one_job_so_far = refl

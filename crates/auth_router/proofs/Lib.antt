@@ -2,6 +2,8 @@ mod BridgeExamples
 pub mod BridgeSteps
 pub mod ControlSteps
 pub mod EndpointSteps
+pub mod JobCounts
+pub mod JobOrdering
 pub mod JobSteps
 pub mod LiveActs
 pub mod LiveDone

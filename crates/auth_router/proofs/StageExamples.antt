@@ -4,7 +4,7 @@ use Rattle.std.specs.Prelude.{◌≡◌, true, false, [], ◌∷◌, refl}
 use Rattle.psd_base.specs.declared.act.Act.TheVariants as act
 use Rattle.psd_base.specs.declared.console.JobKind.TheVariants as job
 use Rattle.auth_router.specs.Entries.{Acted}
-use Rattle.auth_router.proofs.Sessions.{Ack, Nak, Stall, Silent, Data, Asks, Sends, session, small, large, asks, polls, sends, done, control, device, get_device, write_three, no_bytes, get_eight, set_configuration, set_interface}
+use Rattle.auth_router.proofs.Sessions.{Ack, Nak, Stall, Silent, Data, Asks, Sends, session, small, large, asks, polls, sends, done, control, device, get_device, write_three, no_bytes, get_eight, set_configuration, set_interface, set_address}
 
 -- Data to the computer, before the token answers
 
@@ -180,6 +180,18 @@ out_after_its_end = refl
 bytes_of_the_answer_are_dropped : session small (asks no_bytes ∷ polls 0 true ∷ done 1 0 (5 ∷ []) ∷ polls 0 true ∷ [])
     ≡ Ack ∷ Asks (control no_bytes []) ∷ Silent ∷ Data true [] ∷ []
 bytes_of_the_answer_are_dropped = refl
+
+-- SET_ADDRESS, which the bridge serves itself
+
+-- an OUT is refused, and the address stays
+an_out_before_its_status : session small (asks set_address ∷ sends 0 true [] ∷ polls 0 true ∷ asks get_device ∷ [])
+    ≡ Ack ∷ Stall ∷ Stall ∷ Ack ∷ []
+an_out_before_its_status = refl
+
+-- after the status each act is refused at the new address, and none answered at the old
+an_act_after_its_status : session small (asks set_address ∷ polls 0 true ∷ Acted (act.Out 5 0 true []) ∷ Acted (act.In 5 0 true) ∷ sends 0 true [] ∷ [])
+    ≡ Ack ∷ Data true [] ∷ Stall ∷ Stall ∷ Silent ∷ []
+an_act_after_its_status = refl
 
 -- A request error, by the bridge and by the token
 

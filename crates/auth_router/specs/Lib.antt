@@ -5,6 +5,7 @@ pub mod Endpoint
 pub mod EndpointStep
 pub mod Entries
 pub mod Forwarding
+pub mod JobOrders
 pub mod LiveStep
 pub mod Slot
 pub mod SlotCalls

@@ -1,5 +1,5 @@
 //! The transfer at endpoint 0 of the bridge: its stages, and what it waits for.
-ghost use Rattle.std.specs.Prelude.{◌≡◌, ◌+◌, ◌*◌, ◌%◌, ◌==◌, ◌<◌, ◌≤◌, IsTrue, true, [], length, take, drop, not, if◌then◌else◌};
+ghost use Rattle.std.specs.Prelude.{◌≡◌, ◌+◌, ◌*◌, ◌%◌, ◌==◌, ◌<◌, ◌≤◌, IsTrue, true, false, [], length, take, drop, not, if◌then◌else◌};
 ghost use Rattle.control_pipe.specs.Transfer.{packets_of, form_of};
 ghost use Rattle.auth_router.specs.ControlStep.{forwarding_for, stage_for, is_due};
 ghost use Rattle.auth_router.specs.Bridge.{reads};
@@ -188,6 +188,20 @@ impl Control {
         ensures { result ≡ self.now.setup }
     {
         self.setup
+    }
+
+    /// Whether the data of the transfer come from the host, and there may be some.
+    pub(crate) fn sends(&self) -> bool
+        ensures none { result ≡ false → sent_bytes self.now.progress ≡ [] }
+    {
+        match self.stage {
+            Stage::Refusing => false,
+            Stage::DataIn { .. } => false,
+            Stage::StatusOut => false,
+            Stage::DoneOut => false,
+            Stage::DataOut { .. } => true,
+            Stage::StatusIn => false,
+        }
     }
 
     /// The bytes that the host sent.

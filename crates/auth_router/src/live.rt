@@ -1,9 +1,11 @@
 //! The bridge while it is up.
-ghost use Rattle.std.specs.Prelude.{◌≡◌, ◌+◌, ◌<◌, ◌≤◌, ◌==◌, ◌&&◌, ◌||◌, not, IsTrue, if◌then◌else◌, option_map, is_some};
+ghost use Rattle.std.specs.Prelude.{◌≡◌, ◌+◌, ◌<◌, ◌≤◌, ◌==◌, ◌&&◌, ◌||◌, not, IsTrue, if◌then◌else◌, option_map, is_some, length, []};
 ghost use Rattle.psd_base.specs.declared.packet.TheConstants.{PACKET_SIZE};
-ghost use Rattle.auth_router.specs.LiveStep.{opened_live, reset_live, is_reached_live, begun_live, orphaned_control, orphaned_endpoint, completed_live, endpoints_after, with_job, numbered_job, control_in_live, control_in_job, ask_job, asked_live, is_control_work, control_out_live, in_live, in_job_live, out_live, out_job_live, settled_live, settled_work, live_answer, live_job, live_after, hears, heard_live};
+ghost use Rattle.psd_base.specs.declared.console.TheConstants.{ORDERS_MAX};
+ghost use Rattle.auth_router.specs.JobOrders.{ordered};
+ghost use Rattle.auth_router.specs.LiveStep.{opened_live, reset_live, is_reached_live, begun_live, orphaned_control, orphaned_endpoint, completed_live, endpoints_after, with_job, control_in_live, control_in_job, ask_job, asked_live, is_control_work, control_out_live, in_live, in_job_live, out_live, out_job_live, settled_live, settled_work, live_answer, live_job, live_after, hears, heard_live};
 ghost use Rattle.auth_router.specs.EndpointStep.{polled_answer, out_reply};
-ghost use Rattle.auth_router.specs.ControlStep.{control_in_answer, waits};
+ghost use Rattle.auth_router.specs.ControlStep.{control_in_answer, waits, sent_bytes};
 ghost use Rattle.control_pipe.specs.Progress.{out_answer};
 ghost use Rattle.auth_router.specs.Bridge.{is_ack, is_nak};
 
@@ -14,8 +16,8 @@ use crate::request::{
 };
 use crate::up::Up;
 use psd_base::act::{Act, Answer};
-use psd_base::console::{Job, JobKind};
-use psd_base::packet::Packet;
+use psd_base::console::{Job, JobKind, Order, Orders};
+use psd_base::packet::{Block, Packet};
 use psd_base::setup::Setup;
 
 /// Whose job it is.
@@ -68,40 +70,40 @@ impl Live {
         }
     }
 
-    /// Takes an act of the computer, and writes what it is answered and the job that it makes, over what was there.
-    pub(crate) fn act(&mut self, act: &Act, answer: &mut Answer, job: &mut Option<Job>)
-        requires { self.old.jobs < 4294967295 }
+    /// Takes an act of the computer. Writes what it is answered over what was there, and appends the job that it makes.
+    pub(crate) fn act(&mut self, act: &Act, answer: &mut Answer, orders: &mut Orders)
+        requires jobs { self.old.jobs < 4294967295 }
+        requires room { length orders.old.items + 1 ≤ ORDERS_MAX }
         ensures answer { answer.new ≡ live_answer act.now self.old }
-        ensures job { job.new ≡ numbered_job self.old (live_job act.now self.old) }
+        ensures orders { orders.new.items ≡ ordered self.old (live_job act.now self.old) orders.old.items }
         ensures after { self.new ≡ live_after act.now self.old }
     {
         match act {
             Act::Reset => {
                 self.reset();
-                silence(answer, job);
+                *answer = Answer::Silent;
             }
-            Act::Setup { address, setup } => self.take_setup(*address, setup, answer, job),
+            Act::Setup { address, setup } => self.take_setup(*address, setup, answer),
             Act::Out {
                 address,
                 endpoint,
                 toggle,
                 bytes,
-            } => self.take_out(*address, *endpoint, *toggle, bytes, answer, job),
+            } => self.take_out(*address, *endpoint, *toggle, bytes, answer, orders),
             Act::In {
                 address,
                 endpoint,
                 acked,
-            } => self.take_in(*address, *endpoint, *acked, answer, job),
+            } => self.take_in(*address, *endpoint, *acked, answer, orders),
         }
     }
 
     /// Takes a SETUP.
-    fn take_setup(&mut self, address: u8, setup: &Setup, answer: &mut Answer, job: &mut Option<Job>)
+    fn take_setup(&mut self, address: u8, setup: &Setup, answer: &mut Answer)
         ensures answer { answer.new ≡ live_answer (Act.Setup address setup.now) self.old }
-        ensures job { job.new ≡ numbered_job self.old (live_job (Act.Setup address setup.now) self.old) }
         ensures after { self.new ≡ live_after (Act.Setup address setup.now) self.old }
     {
-        silence(answer, job);
+        *answer = Answer::Silent;
         if address as u16 == self.address {
             self.begin(setup);
             *answer = Answer::Ack;
@@ -116,21 +118,22 @@ impl Live {
         toggle: bool,
         packet: &Packet,
         answer: &mut Answer,
-        job: &mut Option<Job>,
+        orders: &mut Orders,
     )
-        requires { self.old.jobs < 4294967295 }
+        requires jobs { self.old.jobs < 4294967295 }
+        requires room { length orders.old.items + 1 ≤ ORDERS_MAX }
         ensures answer { answer.new ≡ live_answer (Act.Out address number toggle packet.now) self.old }
-        ensures job { job.new
-            ≡ numbered_job self.old (live_job (Act.Out address number toggle packet.now) self.old) }
+        ensures orders { orders.new.items
+            ≡ ordered self.old (live_job (Act.Out address number toggle packet.now) self.old)
+            orders.old.items }
         ensures after { self.new ≡ live_after (Act.Out address number toggle packet.now) self.old }
     {
         if !self.is_reached(self.up.outs, address, number) {
-            silence(answer, job);
+            *answer = Answer::Silent;
         } else if number == 0 {
-            *job = None;
             self.control_out(toggle, packet, answer);
         } else {
-            self.take(number, toggle, packet, answer, job);
+            self.take(number, toggle, packet, answer, orders);
         }
     }
 
@@ -141,19 +144,21 @@ impl Live {
         number: u8,
         acked: bool,
         answer: &mut Answer,
-        job: &mut Option<Job>,
+        orders: &mut Orders,
     )
-        requires { self.old.jobs < 4294967295 }
+        requires jobs { self.old.jobs < 4294967295 }
+        requires room { length orders.old.items + 1 ≤ ORDERS_MAX }
         ensures answer { answer.new ≡ live_answer (Act.In address number acked) self.old }
-        ensures job { job.new ≡ numbered_job self.old (live_job (Act.In address number acked) self.old) }
+        ensures orders { orders.new.items
+            ≡ ordered self.old (live_job (Act.In address number acked) self.old) orders.old.items }
         ensures after { self.new ≡ live_after (Act.In address number acked) self.old }
     {
         if !self.is_reached(self.up.ins, address, number) {
-            silence(answer, job);
+            *answer = Answer::Silent;
         } else if number == 0 {
-            self.control_in(acked, answer, job);
+            self.control_in(acked, answer, orders);
         } else {
-            self.poll(number, acked, answer, job);
+            self.poll(number, acked, answer, orders);
         }
     }
 
@@ -186,39 +191,38 @@ impl Live {
     }
 
     /// Takes an IN at endpoint 0.
-    fn control_in(&mut self, acked: bool, answer: &mut Answer, job: &mut Option<Job>)
-        requires { self.old.jobs < 4294967295 }
+    fn control_in(&mut self, acked: bool, answer: &mut Answer, orders: &mut Orders)
+        requires jobs { self.old.jobs < 4294967295 }
+        requires room { length orders.old.items + 1 ≤ ORDERS_MAX }
         ensures answer { answer.new ≡ control_in_answer self.old.control }
-        ensures job { job.new ≡ numbered_job self.old (control_in_job acked self.old) }
+        ensures orders { orders.new.items
+            ≡ ordered self.old (control_in_job acked self.old) orders.old.items }
         ensures after { self.new ≡ control_in_live acked self.old }
     {
         let withheld = self.control.is_withheld();
         let completed = self.control.completes(acked);
         self.control.take_in(acked, answer);
         if withheld {
-            self.ask(job);
-        } else {
-            *job = None;
-            match completed {
-                Some(setup) => self.complete(&setup),
-                None => {}
-            }
+            self.ask(orders);
+        } else if let Some(setup) = completed {
+            self.complete(&setup);
         }
     }
 
     /// Asks the token for the request, where it is still to be asked and no job is outstanding.
-    fn ask(&mut self, job: &mut Option<Job>)
-        requires { self.old.jobs < 4294967295 }
-        ensures job { job.new ≡ numbered_job self.old (ask_job self.old) }
+    fn ask(&mut self, orders: &mut Orders)
+        requires jobs { self.old.jobs < 4294967295 }
+        requires room { length orders.old.items + 1 ≤ ORDERS_MAX }
+        ensures orders { orders.new.items ≡ ordered self.old (ask_job self.old) orders.old.items }
         ensures after { self.new ≡ asked_live self.old }
     {
         if self.outstanding.is_none() && self.control.is_due() {
-            let setup = self.control.setup();
-            let bytes = self.control.payload();
             self.control.ask();
-            self.make(JobKind::Control { setup, bytes }, Work::Control, job);
-        } else {
-            *job = None;
+            if self.control.sends() {
+                self.make_write(orders);
+            } else {
+                self.make_request(orders);
+            }
         }
     }
 
@@ -235,18 +239,17 @@ impl Live {
     }
 
     /// Takes an IN at another endpoint.
-    fn poll(&mut self, number: u8, acked: bool, answer: &mut Answer, job: &mut Option<Job>)
+    fn poll(&mut self, number: u8, acked: bool, answer: &mut Answer, orders: &mut Orders)
         requires numbered { number < ENDPOINTS }
-        requires room { self.old.jobs < 4294967295 }
+        requires jobs { self.old.jobs < 4294967295 }
+        requires room { length orders.old.items + 1 ≤ ORDERS_MAX }
         ensures answer { answer.new ≡ polled_answer number self.old.endpoints }
-        ensures job { job.new ≡ numbered_job self.old (in_job_live number self.old) }
+        ensures orders { orders.new.items ≡ ordered self.old (in_job_live number self.old) orders.old.items }
         ensures after { self.new ≡ in_live number acked self.old }
     {
         self.endpoints.poll(number as usize, acked, answer);
         if is_nak(answer) && self.outstanding.is_none() {
-            self.make(JobKind::In { endpoint: number }, Work::In(number), job);
-        } else {
-            *job = None;
+            self.make_in(number, orders);
         }
     }
 
@@ -257,25 +260,21 @@ impl Live {
         toggle: bool,
         packet: &Packet,
         answer: &mut Answer,
-        job: &mut Option<Job>,
+        orders: &mut Orders,
     )
         requires numbered { number < ENDPOINTS }
-        requires room { self.old.jobs < 4294967295 }
+        requires jobs { self.old.jobs < 4294967295 }
+        requires room { length orders.old.items + 1 ≤ ORDERS_MAX }
         ensures answer { answer.new
             ≡ out_reply number toggle (is_some self.old.outstanding) self.old.endpoints }
-        ensures job { job.new ≡ numbered_job self.old (out_job_live number toggle packet.now self.old) }
+        ensures orders { orders.new.items
+            ≡ ordered self.old (out_job_live number toggle packet.now self.old) orders.old.items }
         ensures after { self.new ≡ out_live number toggle self.old }
     {
         let busy = self.outstanding.is_some();
         let sends = self.endpoints.take(number as usize, toggle, busy, answer);
         if sends {
-            let kind = JobKind::Out {
-                endpoint: number,
-                bytes: packet.duplicate(),
-            };
-            self.make(kind, Work::Out(number), job);
-        } else {
-            *job = None;
+            self.make_out(number, packet, orders);
         }
     }
 
@@ -327,10 +326,68 @@ impl Live {
         }
     }
 
+    /// Makes the job of a request for which the host sends no bytes.
+    fn make_request(&mut self, orders: &mut Orders)
+        requires jobs { self.old.jobs < 4294967295 }
+        requires room { length orders.old.items + 1 ≤ ORDERS_MAX }
+        ensures orders { orders.new.items
+            ≡ ordered self.old (Some (JobKind.Control self.old.control.setup [])) orders.old.items }
+        ensures after { self.new ≡ with_job Work.Control self.old }
+    {
+        let kind = JobKind::Control {
+            setup: self.control.setup(),
+            bytes: Block::new(),
+        };
+        self.make(kind, Work::Control, orders);
+    }
+
+    /// Makes the job of a request with the bytes that the host sent.
+    fn make_write(&mut self, orders: &mut Orders)
+        requires jobs { self.old.jobs < 4294967295 }
+        requires room { length orders.old.items + 1 ≤ ORDERS_MAX }
+        ensures orders { orders.new.items
+            ≡ ordered self.old
+            (Some (JobKind.Control self.old.control.setup (sent_bytes self.old.control.progress)))
+            orders.old.items }
+        ensures after { self.new ≡ with_job Work.Control self.old }
+    {
+        let kind = JobKind::Control {
+            setup: self.control.setup(),
+            bytes: self.control.payload(),
+        };
+        self.make(kind, Work::Control, orders);
+    }
+
+    /// Makes the job of an IN endpoint.
+    fn make_in(&mut self, number: u8, orders: &mut Orders)
+        requires jobs { self.old.jobs < 4294967295 }
+        requires room { length orders.old.items + 1 ≤ ORDERS_MAX }
+        ensures orders { orders.new.items ≡ ordered self.old (Some (JobKind.In number)) orders.old.items }
+        ensures after { self.new ≡ with_job (Work.In number) self.old }
+    {
+        self.make(JobKind::In { endpoint: number }, Work::In(number), orders);
+    }
+
+    /// Makes the job of an OUT endpoint.
+    fn make_out(&mut self, number: u8, packet: &Packet, orders: &mut Orders)
+        requires jobs { self.old.jobs < 4294967295 }
+        requires room { length orders.old.items + 1 ≤ ORDERS_MAX }
+        ensures orders { orders.new.items
+            ≡ ordered self.old (Some (JobKind.Out number packet.now)) orders.old.items }
+        ensures after { self.new ≡ with_job (Work.Out number) self.old }
+    {
+        let kind = JobKind::Out {
+            endpoint: number,
+            bytes: packet.duplicate(),
+        };
+        self.make(kind, Work::Out(number), orders);
+    }
+
     /// Makes a job, which is outstanding then.
-    fn make(&mut self, kind: JobKind, work: Work, job: &mut Option<Job>)
-        requires { self.old.jobs < 4294967295 }
-        ensures job { job.new ≡ numbered_job self.old (Some kind) }
+    fn make(&mut self, kind: JobKind, work: Work, orders: &mut Orders)
+        requires jobs { self.old.jobs < 4294967295 }
+        requires room { length orders.old.items + 1 ≤ ORDERS_MAX }
+        ensures orders { orders.new.items ≡ ordered self.old (Some kind) orders.old.items }
         ensures after { self.new ≡ with_job work self.old }
     {
         self.jobs += 1;
@@ -338,11 +395,11 @@ impl Live {
             work,
             orphaned: false,
         });
-        *job = Some(Job {
+        orders.push(Order::Job(Job {
             life: self.up.life,
             number: self.jobs,
             kind,
-        });
+        }));
     }
 
     /// Does what a completed request asks of the bridge itself.
@@ -371,15 +428,6 @@ fn restart(endpoints: &mut Endpoints, setup: &Setup)
     } else if is_clear_halt(setup) {
         endpoints.restart_at(setup.index);
     }
-}
-
-/// What isn't for the bridge is not answered.
-fn silence(answer: &mut Answer, job: &mut Option<Job>)
-    ensures answer { answer.new ≡ Answer.Silent }
-    ensures job { job.new ≡ None }
-{
-    *answer = Answer::Silent;
-    *job = None;
 }
 
 /// The outstanding job, orphaned if it is a request's.

@@ -83,6 +83,7 @@ impl TokenSlot {
         ensures stands { (past : List SlotCall) → SlotStands self.old past
             → SlotStands self.new (Attach ∷ past) }
         ensures answer { (past : List SlotCall) → SlotStands self.old past → result ≡ comes_on Attach past }
+        ensures few { self.new.life ≤ self.old.life + 1 }
     {
         match self.state {
             SlotState::Absent => {
@@ -110,6 +111,7 @@ impl TokenSlot {
             → SlotStands self.new (Clock tick ∷ past) }
         ensures answer { (past : List SlotCall) → SlotStands self.old past → result
             ≡ comes_on (Clock tick) past }
+        ensures few { self.new.life ≤ self.old.life + 1 }
     {
         match self.state {
             SlotState::Off { since } => {
@@ -134,6 +136,7 @@ impl TokenSlot {
             → SlotStands self.new (Detach tick ∷ past) }
         ensures answer { (past : List SlotCall) → SlotStands self.old past → result
             ≡ goes_off (Detach tick) past }
+        ensures few { self.new.life ≡ self.old.life }
     {
         let had_power = has_power(self.state);
         if had_power {
@@ -149,6 +152,7 @@ impl TokenSlot {
             → SlotStands self.new (Leave tick ∷ past) }
         ensures answer { (past : List SlotCall) → SlotStands self.old past → result
             ≡ goes_off (Leave tick) past }
+        ensures few { self.new.life ≡ self.old.life }
     {
         let had_power = has_power(self.state);
         if had_power {
@@ -165,6 +169,7 @@ impl TokenSlot {
             → SlotStands self.new (Bar tick rule ∷ past) }
         ensures answer { (past : List SlotCall) → SlotStands self.old past → result
             ≡ goes_off (Bar tick rule) past }
+        ensures few { self.new.life ≡ self.old.life }
     {
         self.last_off = Some(tick);
         self.state = SlotState::Barred(rule);
@@ -177,6 +182,7 @@ impl TokenSlot {
         ensures stands { (past : List SlotCall) → SlotStands self.old past
             → SlotStands self.new (Check ∷ past) }
         ensures state { self.new.state ≡ SlotState.Checked }
+        ensures few { self.new.life ≡ self.old.life }
     {
         self.state = SlotState::Checked;
     }
@@ -187,6 +193,7 @@ impl TokenSlot {
         ensures stands { (past : List SlotCall) → SlotStands self.old past
             → SlotStands self.new (Route port ∷ past) }
         ensures state { self.new.state ≡ SlotState.Routed port }
+        ensures few { self.new.life ≡ self.old.life }
     {
         self.state = SlotState::Routed(port);
     }

@@ -59,6 +59,10 @@ two 02000000 23 02 0500 ff 01000000 | => 2 REPORT mouse 255 01000000 ; end
 two 02000000 23 02 4100 01 8*0102030405060708 | => 2 REPORT mouse 1 01020304050607080102030405060708010203040506070801020304050607080102030405060708010203040506070801020304050607080102030405060708 ; end
 # bytes of a record before stay out of a shorter one behind it, and acts and clocks stand between
 two 00000000 22 01 0c00 01000000 01000000 00 aabbcc clock0 in 01000000 22 01 0900 01000000 02000000 00 01000000 23 01 0200 00 dd | => 0 REPLY keyboard 1 1 0 aabbcc, 0 clock, 1 KM1 IN 0 0 1, 1 REPLY keyboard 1 2 0 -, 1 REPORT keyboard 0 dd ; end
+# of the token: no reports, but the ends of its jobs
+two 00000000 20 03 0000 00000000 22 03 0900 01000000 01000000 00 00000000 21 03 0000 | => 0 ATTACH token, 0 REPLY token 1 1 0 -, 0 DETACH token ; end
+two clock0 00000000 24 03 0900 01000000 01000000 00 | => 0 clock, 0 JOBDONE 1 1 0 - ; end
+two 01000000 24 03 0b00 ffffffff 00000100 03 0708 | => 1 JOBDONE 4294967295 65536 3 0708 ; end
 # lines among them
 two 01000000 20 01 0000 02000000 22 01 0a00 01000000 01000000 00 aa 03000000 21 01 0000 | 1 guard down/2 1 down/9 tamper => 1 guard 1, 1 ATTACH keyboard, 2 button 1 1, 2 REPLY keyboard 1 1 0 aa, 3 DETACH keyboard, 9 tamper ; end
 ";
@@ -72,26 +76,29 @@ const FAULTS: &str = "
 # a head that is cut off
 two clock0 0000000020 01 00 | => 0 clock ; capture 16 truncated
 # a tick that goes back, before a kind that isn't there
-two clock1 00000000 24 07 0000 | => 1 clock ; capture 16 tick-back
+two clock1 00000000 25 07 0000 | => 1 clock ; capture 16 tick-back
 # kinds beside those that are there, before a party that isn't there
 two 00000000 00 07 0000 | => ; capture 8 bad-kind
 two 00000000 14 41 0300 000001 | => ; capture 8 bad-kind
 two 00000000 1f 01 0000 | => ; capture 8 bad-kind
-two clock0 00000000 24 03 0900 01000000 01000000 00 | => 0 clock ; capture 16 bad-kind
+two clock0 00000000 25 03 0900 01000000 01000000 00 | => 0 clock ; capture 16 bad-kind
 # parties that aren't there, or not for this kind, before a length
 two 00000000 01 01 0000 | => ; capture 8 bad-who
 two 00000000 13 43 0300 000001 | => ; capture 8 bad-who
 two 00000000 13 80 0300 000001 | => ; capture 8 bad-who
 two 00000000 20 00 0100 | => ; capture 8 bad-who
-two 00000000 20 03 0000 | => ; capture 8 bad-who
+two 00000000 20 04 0000 | => ; capture 8 bad-who
 two 00000000 20 41 0000 | => ; capture 8 bad-who
 two 00000000 21 00 0000 | => ; capture 8 bad-who
-two 00000000 21 03 0000 | => ; capture 8 bad-who
+two 00000000 21 04 0000 | => ; capture 8 bad-who
 two 00000000 22 00 0900 01000000 01000000 00 | => ; capture 8 bad-who
-two 00000000 22 03 0900 01000000 01000000 00 | => ; capture 8 bad-who
+two 00000000 22 04 0900 01000000 01000000 00 | => ; capture 8 bad-who
 two 00000000 22 81 0900 01000000 01000000 00 | => ; capture 8 bad-who
 two 00000000 23 00 0100 00 | => ; capture 8 bad-who
 two clock0 00000000 23 03 0100 00 | => 0 clock ; capture 16 bad-who
+two 00000000 24 00 0900 01000000 01000000 00 | => ; capture 8 bad-who
+two 00000000 24 02 0000 | => ; capture 8 bad-who
+two 00000000 24 83 0900 01000000 01000000 00 | => ; capture 8 bad-who
 # lengths that a kind can't have, before what is cut off
 two 00000000 20 01 0100 | => ; capture 8 bad-length
 two 00000000 21 02 0001 | => ; capture 8 bad-length
@@ -100,15 +107,19 @@ two 00000000 22 02 0a04 | => ; capture 8 bad-length
 two 00000000 23 01 0000 | => ; capture 8 bad-length
 two clock0 00000000 23 02 4200 | => 0 clock ; capture 16 bad-length
 two 00000000 12 41 4400 | => ; capture 8 bad-length
+two 00000000 24 03 0800 01000000 01000000 | => ; capture 8 bad-length
+two 00000000 24 03 0a04 | => ; capture 8 bad-length
 # payloads that are cut off, before a field
 two 00000000 22 01 0900 01000000 01000000 | => ; capture 8 truncated
 two 00000000 22 01 0a00 01000000 01000000 04 | => ; capture 8 truncated
 two clock0 00000000 22 02 0904 01000000 01000000 00 127*0102030405060708 01020304050607 | => 0 clock ; capture 16 truncated
 two 00000000 23 01 0100 | => ; capture 8 truncated
+two 00000000 24 03 0900 01000000 01000000 | => ; capture 8 truncated
 two 00000000 23 02 4100 01 7*0102030405060708 01020304050607 | => ; capture 8 truncated
 # fields out of range
 two 00000000 22 01 0900 01000000 01000000 04 | => ; capture 8 bad-field
 two clock0 00000000 22 02 0a00 01000000 01000000 ff 00 | => 0 clock ; capture 16 bad-field
+two 00000000 24 03 0900 01000000 01000000 04 | => ; capture 8 bad-field
 two 00000000 11 41 0900 80 8006000100004000 | => ; capture 8 bad-field
 two 00000000 12 41 0300 00 10 01 | => ; capture 8 bad-field
 two 00000000 13 41 0300 00 00 02 | => ; capture 8 bad-field
@@ -249,6 +260,15 @@ fn what_text(alloc: Global, what: &What<'_>) -> Result<String, AllocError> {
         } => {
             let text = bytes_text(alloc, bytes)?;
             format!(in alloc; "REPORT {} {interface} {text}", plug_text(*plug))
+        }
+        What::JobDone {
+            life,
+            number,
+            status,
+            bytes,
+        } => {
+            let text = bytes_text(alloc, bytes)?;
+            format!(in alloc; "JOBDONE {life} {number} {status} {text}")
         }
     }
 }

@@ -8,7 +8,6 @@ use Rattle.capture_reader.specs.declared.progress.Progress.{Progress}
 use Rattle.capture_reader.specs.declared.progress.State.TheVariants.{Waiting}
 use Rattle.capture_reader.specs.Ahead.{ahead_of, line_of}
 use Rattle.capture_reader.specs.Capture.{head_of, size_of, record_at, records}
-use Rattle.capture_reader.specs.Lines.{LinesEnd}
 use Rattle.capture_reader.specs.Progress.{IsSound}
 use Rattle.capture_reader.specs.Schedule.{Schedule, in_front, over}
 use Rattle.capture_reader.specs.Script.{first_line, line_at, lines}
@@ -37,13 +36,9 @@ one_more : (bytes : List ℕ) → bytes ++ (0 ∷ []) ≡ [] → ⊥
 one_more [] none = cc
 one_more (byte ∷ bytes) none = cc
 
-capture_is_met : (ports last offset : ℕ) (bytes : List ℕ) (ended : Bool) → Ends ports last offset (record { bytes = bytes; ended = ended }) None → ended ≡ true
-capture_is_met ports last offset bytes true ends = refl
-capture_is_met ports last offset bytes false ends = absurd (one_more bytes (no_bytes ports last offset (bytes ++ (0 ∷ [])) (ends (0 ∷ []))))
-
-script_is_met : (ports last number : ℕ) (bytes : List ℕ) (ended : Bool) → LinesEnd ports last number (record { bytes = bytes; ended = ended }) None → ended ≡ true
-script_is_met ports last number bytes true ends = refl
-script_is_met ports last number bytes false ends = absurd (one_more bytes (no_line_bytes ports last number (bytes ++ (0 ∷ [])) (ends (0 ∷ []))))
+is_met : (walk : List ℕ → Schedule) → ((bytes : List ℕ) → walk bytes ≡ over None → bytes ≡ []) → (bytes : List ℕ) (ended : Bool) → Ends walk (record { bytes = bytes; ended = ended }) None → ended ≡ true
+is_met walk none bytes true ends = refl
+is_met walk none bytes false ends = absurd (one_more bytes (none (bytes ++ (0 ∷ [])) (ends (0 ∷ []))))
 
 -- neither source has an event
 pub ends_are_met : (progress : Progress) → IsSound progress → progress.state ≡ Waiting → ahead_of progress.capture.ahead ≡ None → line_of progress.script.ahead ≡ None
@@ -51,6 +46,6 @@ pub ends_are_met : (progress : Progress) → IsSound progress → progress.state
 ends_are_met progress sound waiting no_record no_line =
     let capture = progress.capture in
     let script = progress.script in (
-      capture_is_met capture.ports capture.tick capture.offset capture.window.bytes capture.window.ended (MatchOption-at_none _ _ no_record (waiting_records progress sound waiting)),
-      script_is_met capture.ports script.tick script.line script.window.bytes script.window.ended (MatchOption-at_none _ _ no_line (waiting_lines progress sound waiting)),
+      is_met (records capture.ports capture.tick capture.offset 0) (no_bytes capture.ports capture.tick capture.offset) capture.window.bytes capture.window.ended (MatchOption-at_none _ _ no_record (waiting_records progress sound waiting)),
+      is_met (lines capture.ports script.tick script.line 0) (no_line_bytes capture.ports script.tick script.line) script.window.bytes script.window.ended (MatchOption-at_none _ _ no_line (waiting_lines progress sound waiting)),
     )

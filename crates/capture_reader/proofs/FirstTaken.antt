@@ -6,16 +6,23 @@ use Rattle.psd_base.specs.declared.stop.CaptureFault.TheVariants.{Truncated}
 use Rattle.psd_base.specs.declared.stop.Stop.{Stop}
 use Rattle.psd_base.specs.declared.stop.Stop.TheVariants as stops
 use Rattle.psd_base.specs.Desk.{Told}
+use Rattle.capture_reader.specs.declared.fault.Fault.{Fault}
+use Rattle.capture_reader.specs.declared.fault.Fault.TheVariants as faults
+use Rattle.capture_reader.specs.declared.fault.RecordFault.{RecordFault}
+use Rattle.capture_reader.specs.declared.fault.RecordFault.TheVariants as of_record
+use Rattle.capture_reader.specs.declared.fault.LineFault.{LineFault}
+use Rattle.capture_reader.specs.declared.fault.LineFault.TheVariants as of_line
 use Rattle.capture_reader.specs.declared.progress.Progress.{Progress}
 use Rattle.capture_reader.specs.declared.progress.State.TheVariants.{Waiting}
 use Rattle.capture_reader.specs.declared.script.ScriptSource.{ScriptSource}
 use Rattle.capture_reader.specs.declared.source.CaptureSource.{CaptureSource}
 use Rattle.capture_reader.specs.Ahead.{ahead_of, line_of}
 use Rattle.capture_reader.specs.Capture.{header, records}
+use Rattle.capture_reader.specs.Fault.{record_stop, line_stop, stop_of}
 use Rattle.capture_reader.specs.Lines.{lines_in, LineLookFailed}
 use Rattle.capture_reader.specs.Progress.{capture_reading, script_reading, reading}
 use Rattle.capture_reader.specs.Reader.{records_held, lines_held, TookBoth}
-use Rattle.capture_reader.specs.Source.{records_in, LookFailed, IsCaptureStop}
+use Rattle.capture_reader.specs.Source.{records_in, LookFailed, IsFaulty}
 use Rattle.capture_reader.specs.Taken.{waiting, given_from, whole_records, whole_lines, Took, TookNone, FailsFirst}
 use Rattle.capture_reader.specs.Window.{Held, HeldMore}
 use Rattle.capture_reader.proofs.Counting.{none_taken, no_line_taken}
@@ -63,15 +70,9 @@ none_opened window held left left_after more_held empty short = record {
   none = ap whole_records (sym (all_taken window held left left_after more_held empty)) ∙ whole_none (stops.Capture 0 Truncated) held.bytes (header-short held.bytes short);
 }
 
-pub capture_stop_first : (told told_after : Told) (stop : Stop) → IsCaptureStop stop → FailsFirst whole_records whole_lines told told_after stop
-capture_stop_first told told_after stops.Usage is = tt
-capture_stop_first told told_after (stops.Rules why) is = tt
-capture_stop_first told told_after (stops.Capture offset why) is = tt
-capture_stop_first told told_after (stops.Script line why) is = tt
-capture_stop_first told told_after stops.TooLong is = tt
-capture_stop_first told told_after (stops.ReadFault input) is = absurd is
-capture_stop_first told told_after (stops.WriteFault outlet) is = tt
-capture_stop_first told told_after stops.OutOfMemory is = tt
+pub faulty_first : (told told_after : Told) (fault : RecordFault) → IsFaulty fault → FailsFirst whole_records whole_lines told told_after (record_stop fault)
+faulty_first told told_after of_record.Unread is = absurd is
+faulty_first told told_after (of_record.Faulty offset why) is = tt
 
 -- the first looks, as the reader's value has them
 
@@ -95,52 +96,31 @@ first_line_looked now new ended left left_after took = record {
 
 -- a look that failed
 
-pub capture_first : (now new : CaptureSource) (lines : List ℕ → ℕ) (told told_after : Told) (stop : Stop) → ahead_of new.ahead ≡ None
+pub capture_first : (now new : CaptureSource) (lines : List ℕ → ℕ) (told told_after : Told) (fault : RecordFault) → ahead_of new.ahead ≡ None
     → Took (records_in now) (records_in new) new.window.ended (told.left inputs.Capture) (told_after.left inputs.Capture) (waiting (ahead_of new.ahead))
-    → LookFailed new.ports new.tick new.offset new.window told told_after stop → FailsFirst (records_in now) lines told told_after stop
-capture_first now new lines told told_after stops.Usage none took failed = tt
-capture_first now new lines told told_after (stops.Rules why) none took failed = tt
-capture_first now new lines told told_after (stops.Capture offset why) none took failed = tt
-capture_first now new lines told told_after (stops.Script line why) none took failed = tt
-capture_first now new lines told told_after stops.TooLong none took failed = tt
-capture_first now new lines told told_after (stops.ReadFault inputs.Rules) none took failed = tt
-capture_first now new lines told told_after (stops.ReadFault inputs.Capture) none took failed =
+    → LookFailed new.ports new.tick new.offset new.window told told_after fault → FailsFirst (records_in now) lines told told_after (record_stop fault)
+capture_first now new lines told told_after (of_record.Faulty offset why) none took failed = tt
+capture_first now new lines told told_after of_record.Unread none took failed =
     none_taken now new (told.left inputs.Capture) (told_after.left inputs.Capture)
     (subst (λ n. Took (records_in now) (records_in new) new.window.ended (told.left inputs.Capture) (told_after.left inputs.Capture) n) (ap waiting none) took) failed.2 failed.1
-capture_first now new lines told told_after (stops.ReadFault inputs.Script) none took failed = absurd failed
-capture_first now new lines told told_after (stops.WriteFault outlet) none took failed = tt
-capture_first now new lines told told_after stops.OutOfMemory none took failed = tt
 
-pub script_first : (now new : ScriptSource) (records : List ℕ → ℕ) (told told_after : Told) (stop : Stop) → line_of new.ahead ≡ None
+pub script_first : (now new : ScriptSource) (records : List ℕ → ℕ) (told told_after : Told) (fault : LineFault) → line_of new.ahead ≡ None
     → Took (lines_in now) (lines_in new) new.window.ended (told.left inputs.Script) (told_after.left inputs.Script) (waiting (line_of new.ahead))
-    → LineLookFailed new.ports new.tick new.line new.window told told_after stop → FailsFirst records (lines_in now) told told_after stop
-script_first now new records told told_after stops.Usage none took failed = tt
-script_first now new records told told_after (stops.Rules why) none took failed = tt
-script_first now new records told told_after (stops.Capture offset why) none took failed = tt
-script_first now new records told told_after (stops.Script line why) none took failed = tt
-script_first now new records told told_after stops.TooLong none took failed = tt
-script_first now new records told told_after (stops.ReadFault inputs.Rules) none took failed = tt
-script_first now new records told told_after (stops.ReadFault inputs.Capture) none took failed = absurd failed
-script_first now new records told told_after (stops.ReadFault inputs.Script) none took failed =
+    → LineLookFailed new.ports new.tick new.line new.window told told_after fault → FailsFirst records (lines_in now) told told_after (line_stop fault)
+script_first now new records told told_after (of_line.Faulty line why) none took failed = tt
+script_first now new records told told_after of_line.Unread none took failed =
     no_line_taken now new (told.left inputs.Script) (told_after.left inputs.Script)
     (subst (λ n. Took (lines_in now) (lines_in new) new.window.ended (told.left inputs.Script) (told_after.left inputs.Script) n) (ap waiting none) took) failed.2 failed.1
-script_first now new records told told_after (stops.WriteFault outlet) none took failed = tt
-script_first now new records told told_after stops.OutOfMemory none took failed = tt
 
 -- a read of the capture that failed behind the first line
-pub first_since : (records lines : List ℕ → ℕ) (earlier told told_after : Told) (stop : Stop) → told.left inputs.Capture ≡ earlier.left inputs.Capture
-    → FailsFirst records (λ _. 1) told told_after stop → FailsFirst records lines earlier told_after stop
-first_since records lines earlier told told_after stops.Usage same failed = tt
-first_since records lines earlier told told_after (stops.Rules why) same failed = tt
-first_since records lines earlier told told_after (stops.Capture offset why) same failed = tt
-first_since records lines earlier told told_after (stops.Script line why) same failed = tt
-first_since records lines earlier told told_after stops.TooLong same failed = tt
-first_since records lines earlier told told_after (stops.ReadFault inputs.Rules) same failed = tt
-first_since records lines earlier told told_after (stops.ReadFault inputs.Capture) same failed =
+pub first_since : (records lines : List ℕ → ℕ) (earlier told told_after : Told) (fault : Fault) → told.left inputs.Capture ≡ earlier.left inputs.Capture
+    → FailsFirst records (λ _. 1) told told_after (stop_of fault) → FailsFirst records lines earlier told_after (stop_of fault)
+first_since records lines earlier told told_after (faults.Record (of_record.Faulty offset why)) same failed = tt
+first_since records lines earlier told told_after (faults.Line (of_line.Faulty line why)) same failed = tt
+first_since records lines earlier told told_after faults.TooMany same failed = tt
+first_since records lines earlier told told_after (faults.Record of_record.Unread) same failed =
     subst (λ (left : Option (List ℕ)). TookNone records left (told_after.left inputs.Capture)) same failed
-first_since records lines earlier told told_after (stops.ReadFault inputs.Script) same failed = absurd (let none = failed.none in omega arith)
-first_since records lines earlier told told_after (stops.WriteFault outlet) same failed = tt
-first_since records lines earlier told told_after stops.OutOfMemory same failed = tt
+first_since records lines earlier told told_after (faults.Line of_line.Unread) same failed = absurd (let none = failed.none in omega arith)
 
 -- and behind the header
 
@@ -148,16 +128,13 @@ empty_lines : (script : ScriptSource) (bytes : List ℕ) → script.window.bytes
 unfolding lines_in
 empty_lines script bytes empty = ap (λ front. whole_lines (front ++ bytes)) (sym empty)
 
-pub first_of_all : (capture : CaptureSource) (script : ScriptSource) (earlier told told_after : Told) (stop : Stop) → script.window.bytes ≡ [] → told.left inputs.Script ≡ earlier.left inputs.Script
+pub first_of_all : (capture : CaptureSource) (script : ScriptSource) (earlier told told_after : Told) (fault : Fault) → script.window.bytes ≡ [] → told.left inputs.Script ≡ earlier.left inputs.Script
     → Took whole_records (records_in capture) false (earlier.left inputs.Capture) (told.left inputs.Capture) 0
-    → FailsFirst (records_in capture) (lines_in script) told told_after stop → FailsFirst whole_records whole_lines earlier told_after stop
-first_of_all capture script earlier told told_after stops.Usage empty same opened failed = tt
-first_of_all capture script earlier told told_after (stops.Rules why) empty same opened failed = tt
-first_of_all capture script earlier told told_after (stops.Capture offset why) empty same opened failed = tt
-first_of_all capture script earlier told told_after (stops.Script line why) empty same opened failed = tt
-first_of_all capture script earlier told told_after stops.TooLong empty same opened failed = tt
-first_of_all capture script earlier told told_after (stops.ReadFault inputs.Rules) empty same opened failed = tt
-first_of_all capture script earlier told told_after (stops.ReadFault inputs.Capture) empty same opened failed = record {
+    → FailsFirst (records_in capture) (lines_in script) told told_after (stop_of fault) → FailsFirst whole_records whole_lines earlier told_after (stop_of fault)
+first_of_all capture script earlier told told_after (faults.Record (of_record.Faulty offset why)) empty same opened failed = tt
+first_of_all capture script earlier told told_after (faults.Line (of_line.Faulty line why)) empty same opened failed = tt
+first_of_all capture script earlier told told_after faults.TooMany empty same opened failed = tt
+first_of_all capture script earlier told told_after (faults.Record of_record.Unread) empty same opened failed = record {
   bytes = opened.bytes ++ failed.bytes;
   left_is = taken_on opened.bytes failed.bytes (earlier.left inputs.Capture) (told.left inputs.Capture) (told_after.left inputs.Capture) opened.left_is failed.left_is;
   none =
@@ -165,13 +142,11 @@ first_of_all capture script earlier told told_after (stops.ReadFault inputs.Capt
       let none : records_in capture failed.bytes ≡ 0 = failed.none in
       omega arith;
 }
-first_of_all capture script earlier told told_after (stops.ReadFault inputs.Script) empty same opened failed = record {
+first_of_all capture script earlier told told_after (faults.Line of_line.Unread) empty same opened failed = record {
   bytes = failed.bytes;
   left_is = sym same ∙ failed.left_is;
   none = empty_lines script failed.bytes empty ∙ failed.none;
 }
-first_of_all capture script earlier told told_after (stops.WriteFault outlet) empty same opened failed = tt
-first_of_all capture script earlier told told_after stops.OutOfMemory empty same opened failed = tt
 
 -- what the first looks took
 

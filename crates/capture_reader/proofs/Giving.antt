@@ -2,10 +2,14 @@
 use Rattle.std.proofs.Common.{◌≡◌, ◌≢◌, ℕ, ◌+◌, Bool, true, false, List, [], ◌++◌, length, Option, Some, None, IsSome, IfSome, IfErr, IsSomeAnd, Result, Ok, Err, refl, sym, ap, ◌∙◌, subst, arith, append-nil}
 use Rattle.psd_base.specs.declared.outlet.Input.{Input}
 use Rattle.psd_base.specs.declared.outlet.Input.TheVariants as inputs
-use Rattle.psd_base.specs.declared.stop.Stop.{Stop}
-use Rattle.psd_base.specs.declared.stop.Stop.TheVariants as stops
 use Rattle.psd_base.specs.Desk.{NoOutlet, OnlyReads, Told, Touches}
 use Rattle.psd_base.specs.Event.{Seen}
+use Rattle.capture_reader.specs.declared.fault.Fault.{Fault}
+use Rattle.capture_reader.specs.declared.fault.Fault.TheVariants.{TooMany}
+use Rattle.capture_reader.specs.declared.fault.RecordFault.{RecordFault}
+use Rattle.capture_reader.specs.declared.fault.RecordFault.TheVariants as of_record
+use Rattle.capture_reader.specs.declared.fault.LineFault.{LineFault}
+use Rattle.capture_reader.specs.declared.fault.LineFault.TheVariants as of_line
 use Rattle.capture_reader.specs.declared.progress.Progress.{Progress}
 use Rattle.capture_reader.specs.declared.progress.State.{State}
 use Rattle.capture_reader.specs.declared.progress.State.TheVariants.{Waiting, GivenRecord, GivenLine, Stopped}
@@ -13,6 +17,7 @@ use Rattle.capture_reader.specs.declared.script.ScriptSource.{ScriptSource}
 use Rattle.capture_reader.specs.declared.source.CaptureSource.{CaptureSource}
 use Rattle.capture_reader.specs.Ahead.{ahead_of, line_of}
 use Rattle.capture_reader.specs.Capture.{records}
+use Rattle.capture_reader.specs.Fault.{record_stop, line_stop, stop_of}
 use Rattle.capture_reader.specs.Lines.{lines_in, LineLookFailed}
 use Rattle.capture_reader.specs.Progress.{capture_reading, script_reading, reading, IsSound, RecordsFit, LinesFit, given_in}
 use Rattle.capture_reader.specs.Reader.{records_held, lines_held, TookBoth}
@@ -100,9 +105,9 @@ gave_line old new tick told sound state same =
       script = took_nothing _ _ _ _ _ (λ more. line_gave old.script more (given_from inputs.Script (line_of old.script.ahead)) given.0);
     }))
 
-pub gave_nothing : (old new : Progress) (stop : Stop) (told : Told) → old.state ≡ Waiting → new ≡ record old { state = Stopped stop } → GaveBoth old new told
-gave_nothing old new stop told state same =
-    let after : Progress = record old { state = Stopped stop } in
+pub gave_nothing : (old new : Progress) (fault : Fault) (told : Told) → old.state ≡ Waiting → new ≡ record old { state = Stopped fault } → GaveBoth old new told
+gave_nothing old new fault told state same =
+    let after : Progress = record old { state = Stopped fault } in
     let P : State → Type 0 = λ state. GaveBoth (record old { state = state }) after told in
     let Q : Progress → Type 0 = λ progress. GaveBoth old progress told in
     subst Q (sym same) (subst P (sym state) (record {
@@ -117,10 +122,10 @@ gave_same progress told none = record {
 }
 
 -- an answer of `go_on`
-pub gave : {P : Stop → Type 0} {Q : Type 0} (answer : Result Bool Stop) → answer ≢ Ok false → (answer ≡ Ok true → Q) → ((stop : Stop) → P stop → Q) → IfErr answer P → Q
+pub gave : {P : Fault → Type 0} {Q : Type 0} (answer : Result Bool Fault) → answer ≢ Ok false → (answer ≡ Ok true → Q) → ((fault : Fault) → P fault → Q) → IfErr answer P → Q
 gave (Ok true) some more full err = more refl
 gave (Ok false) some more full err = absurd (some refl)
-gave (Err stop) some more full err = full stop err
+gave (Err fault) some more full err = full fault err
 
 -- a look and then a gift
 
@@ -175,38 +180,24 @@ looks_at (Some event) input told told_after is only = record {
   outlets = only.outlets;
   read_counts = only.read_counts;
   write_counts = only.write_counts;
+  other_reads = λ other not. only.other_reads other (λ same. not (ap (λ (which : Input). is_from which event) same ∙ is));
+  other_writes = only.other_writes;
 }
 
 -- a read that failed comes behind an event of its source
 
-pub capture_behind : (given : Option Seen) (ports last offset : ℕ) (held : Held) (told told_after : Told) (stop : Stop) → IsSomeAnd given (λ event. is_from inputs.Capture event ≡ true)
-    → LookFailed ports last offset held told told_after stop → FailsBehind given stop
-capture_behind given ports last offset held told told_after stops.Usage is failed = absurd failed
-capture_behind given ports last offset held told told_after (stops.Rules why) is failed = absurd failed
-capture_behind given ports last offset held told told_after (stops.Capture place why) is failed = tt
-capture_behind given ports last offset held told told_after (stops.Script line why) is failed = absurd failed
-capture_behind given ports last offset held told told_after stops.TooLong is failed = absurd failed
-capture_behind given ports last offset held told told_after (stops.ReadFault inputs.Rules) is failed = absurd failed
-capture_behind given ports last offset held told told_after (stops.ReadFault inputs.Capture) is failed = is
-capture_behind given ports last offset held told told_after (stops.ReadFault inputs.Script) is failed = absurd failed
-capture_behind given ports last offset held told told_after (stops.WriteFault outlet) is failed = absurd failed
-capture_behind given ports last offset held told told_after stops.OutOfMemory is failed = absurd failed
+pub capture_behind : (given : Option Seen) (ports last offset : ℕ) (held : Held) (told told_after : Told) (fault : RecordFault) → IsSomeAnd given (λ event. is_from inputs.Capture event ≡ true)
+    → LookFailed ports last offset held told told_after fault → FailsBehind given (record_stop fault)
+capture_behind given ports last offset held told told_after (of_record.Faulty place why) is failed = tt
+capture_behind given ports last offset held told told_after of_record.Unread is failed = is
 
-pub script_behind : (given : Option Seen) (ports last number : ℕ) (held : Held) (told told_after : Told) (stop : Stop) → IsSomeAnd given (λ event. is_from inputs.Script event ≡ true)
-    → LineLookFailed ports last number held told told_after stop → FailsBehind given stop
-script_behind given ports last number held told told_after stops.Usage is failed = absurd failed
-script_behind given ports last number held told told_after (stops.Rules why) is failed = absurd failed
-script_behind given ports last number held told told_after (stops.Capture place why) is failed = absurd failed
-script_behind given ports last number held told told_after (stops.Script line why) is failed = tt
-script_behind given ports last number held told told_after stops.TooLong is failed = absurd failed
-script_behind given ports last number held told told_after (stops.ReadFault inputs.Rules) is failed = absurd failed
-script_behind given ports last number held told told_after (stops.ReadFault inputs.Capture) is failed = absurd failed
-script_behind given ports last number held told told_after (stops.ReadFault inputs.Script) is failed = is
-script_behind given ports last number held told told_after (stops.WriteFault outlet) is failed = absurd failed
-script_behind given ports last number held told told_after stops.OutOfMemory is failed = absurd failed
+pub script_behind : (given : Option Seen) (ports last number : ℕ) (held : Held) (told told_after : Told) (fault : LineFault) → IsSomeAnd given (λ event. is_from inputs.Script event ≡ true)
+    → LineLookFailed ports last number held told told_after fault → FailsBehind given (line_stop fault)
+script_behind given ports last number held told told_after (of_line.Faulty line why) is failed = tt
+script_behind given ports last number held told told_after of_line.Unread is failed = is
 
-pub too_long_behind : (given : Option Seen) (stop : Stop) → stop ≡ stops.TooLong → FailsBehind given stop
-too_long_behind given stop is = subst (λ (answer : Stop). FailsBehind given answer) (sym is) tt
+pub too_many_behind : (given : Option Seen) (fault : Fault) → fault ≡ TooMany → FailsBehind given (stop_of fault)
+too_many_behind given fault is = subst (λ (answer : Fault). FailsBehind given (stop_of answer)) (sym is) tt
 
 -- a source that holds nothing whole
 

@@ -21,7 +21,7 @@ coming_is bytes true left = ([], sym (append-nil bytes))
 coming_is bytes false left = (left, refl)
 
 ends_by : (ports last offset : ℕ) (held : Held) (why : CaptureFault) → 0 < length held.bytes
-    → ((more : List ℕ) → record_at ports last (held.bytes ++ more) ≡ Err why) → Ends ports last offset held (Some (stops.Capture offset why))
+    → ((more : List ℕ) → record_at ports last (held.bytes ++ more) ≡ Err why) → Ends (records ports last offset 0) held (Some (stops.Capture offset why))
 ends_by ports last offset held why some faulty left =
     let behind = coming_is held.bytes held.ended left in
     let size : 0 < length (held.bytes ++ behind.0) = omega (arith, length-append held.bytes behind.0) in
@@ -30,23 +30,23 @@ ends_by ports last offset held why some faulty left =
 pub coming_ended : (held : Held) (left : List ℕ) → held.ended ≡ true → coming held left ≡ held.bytes
 coming_ended held left ended = rw ended refl
 
-pub ends_empty : (ports last offset : ℕ) (held : Held) → held.ended ≡ true → held.bytes ≡ [] → Ends ports last offset held None
+pub ends_empty : (ports last offset : ℕ) (held : Held) → held.ended ≡ true → held.bytes ≡ [] → Ends (records ports last offset 0) held None
 unfolding records
 ends_empty ports last offset held ended empty left = ap (records ports last offset 0) (coming_ended held left ended ∙ empty)
 
 pub ends_short : (ports last offset : ℕ) (held : Held) → held.ended ≡ true → 0 < length held.bytes → length held.bytes < 8
-    → Ends ports last offset held (Some (stops.Capture offset Truncated))
+    → Ends (records ports last offset 0) held (Some (stops.Capture offset Truncated))
 ends_short ports last offset held ended some short left =
     ap (records ports last offset 0) (coming_ended held left ended) ∙ records_faulty ports last offset Truncated held.bytes some (record_at-short ports last held.bytes short)
 
 pub ends_head : (ports last offset : ℕ) (held : Held) (why : CaptureFault) → 8 ≤ length held.bytes → announced ports last (head_of held.bytes) ≡ Err why
-    → Ends ports last offset held (Some (stops.Capture offset why))
+    → Ends (records ports last offset 0) held (Some (stops.Capture offset why))
 ends_head ports last offset held why whole faulty =
     ends_by ports last offset held why (omega arith) (λ more.
     record_at-head ports last (held.bytes ++ more) why (omega (arith, length-append held.bytes more)) (ap (announced ports last) (head_of-append held.bytes more whole) ∙ faulty))
 
 pub ends_cut : (ports last offset : ℕ) (held : Held) (head : Head) (form : Form) → Announces ports last held.bytes head form → held.ended ≡ true
-    → length held.bytes < size_of head → Ends ports last offset held (Some (stops.Capture offset Truncated))
+    → length held.bytes < size_of head → Ends (records ports last offset 0) held (Some (stops.Capture offset Truncated))
 ends_cut ports last offset held head form sound ended short left =
     let size : length held.bytes < size_of (head_of held.bytes) = let P : Head → Type 0 = λ h. length held.bytes < size_of h in subst P (sym sound.head_is) short in
     ap (records ports last offset 0) (coming_ended held left ended)
@@ -76,7 +76,7 @@ longer_sound ports last xs ys head form sound enough =
 
 pub ends_field : (ports last offset : ℕ) (held : Held) (head : Head) (form : Form) (why : CaptureFault) → Announces ports last held.bytes head form
     → size_of head ≤ length held.bytes → happening_in form (slice_range held.bytes 8 (size_of head)) ≡ Err why
-    → Ends ports last offset held (Some (stops.Capture offset why))
+    → Ends (records ports last offset 0) held (Some (stops.Capture offset why))
 ends_field ports last offset held head form why sound enough faulty =
     ends_by ports last offset held why (omega (arith, sound.whole)) (λ more.
     let l = longer_sound ports last held.bytes more head form sound enough in
@@ -120,23 +120,22 @@ partial_cut ports last offset held head form sound short =
     partial_by ports last offset held.bytes (record_at-cut ports last held.bytes form sound.whole (ap (announced ports last) sound.head_is ∙ sound.form_is) size)
 
 -- the same where the desk may not tell what it has left
-pub later_ends : (ports last offset : ℕ) (held : Held) (stop : Option Stop) (left : Option (List ℕ)) → Ends ports last offset held stop
-    → IfSome (later ports last offset held left) (λ recording. recording ≡ over stop)
+pub later_ends : (walk : List ℕ → Schedule) (held : Held) (stop : Option Stop) (left : Option (List ℕ)) → Ends walk held stop → IfSome (later walk held left) (λ recording. recording ≡ over stop)
 unfolding later still
-later_ends ports last offset held stop None ends = tt
-later_ends ports last offset held stop (Some left) ends = ends left
+later_ends walk held stop None ends = tt
+later_ends walk held stop (Some left) ends = ends left
 
-pub later_still : (ports last offset : ℕ) (held held_after : Held) (left left_after : Option (List ℕ)) → still held_after left_after ≡ still held left
-    → later ports last offset held left ≡ later ports last offset held_after left_after
+pub later_still : (walk : List ℕ → Schedule) (held held_after : Held) (left left_after : Option (List ℕ)) → still held_after left_after ≡ still held left
+    → later walk held left ≡ later walk held_after left_after
 unfolding later
-later_still ports last offset held held_after left left_after same = ap (λ bytes. option_map (records ports last offset 0) bytes) (sym same)
+later_still walk held held_after left left_after same = ap (option_map walk) (sym same)
 
-pub later_moves : (ports last offset ports_after tick place : ℕ) (held held_after : Held) (event : Seen) (left : Option (List ℕ))
-    → ((bytes : List ℕ) → records ports last offset 0 (coming held bytes) ≡ in_front event (records ports_after tick place 0 (coming held_after bytes)))
-    → later ports last offset held left ≡ option_map (in_front event) (later ports_after tick place held_after left)
+pub later_moves : (walk walk_after : List ℕ → Schedule) (held held_after : Held) (ahead : Option Seen) (left : Option (List ℕ))
+    → ((bytes : List ℕ) → walk (coming held bytes) ≡ after_ahead ahead (walk_after (coming held_after bytes)))
+    → later walk held left ≡ option_map (after_ahead ahead) (later walk_after held_after left)
 unfolding later still
-later_moves ports last offset ports_after tick place held held_after event None moves = refl
-later_moves ports last offset ports_after tick place held held_after event (Some left) moves = ap Some (moves left)
+later_moves walk walk_after held held_after ahead None moves = refl
+later_moves walk walk_after held held_after ahead (Some left) moves = ap Some (moves left)
 
 -- more bytes behind a sound head
 pub announces_longer : (ports last : ℕ) (xs ys : List ℕ) (head : Head) (form : Form) → Announces ports last xs head form → Begins xs ys → Announces ports last ys head form

@@ -7,8 +7,11 @@ use Rattle.psd_base.specs.declared.stop.CaptureFault.TheVariants.{Truncated}
 use Rattle.psd_base.specs.declared.stop.Stop.{Stop}
 use Rattle.psd_base.specs.declared.stop.Stop.TheVariants as stops
 use Rattle.psd_base.specs.Desk.{Told}
+use Rattle.capture_reader.specs.declared.fault.RecordFault.{RecordFault}
+use Rattle.capture_reader.specs.declared.fault.RecordFault.TheVariants as of_record
 use Rattle.capture_reader.specs.Capture.{header, records}
-use Rattle.capture_reader.specs.Source.{later, IsCaptureStop, OpenFailed}
+use Rattle.capture_reader.specs.Fault.{record_stop}
+use Rattle.capture_reader.specs.Source.{later, IsFaulty, OpenFailed}
 use Rattle.capture_reader.specs.Window.{Held, coming, still}
 use Rattle.capture_reader.proofs.Looks.{coming_is, coming_past, coming_ended}
 
@@ -50,19 +53,13 @@ header_cut held left (Some after) all ended short =
     subst (λ (told : Option (List ℕ)). IfSome told (λ bytes. header bytes ≡ Err (stops.Capture 0 Truncated))) (sym all) (ap header (coming_ended held after ended) ∙ header-short held.bytes short)
 
 pub records_told : (held : Held) (left left_after : Option (List ℕ)) (ports : ℕ) → left ≡ option_map (coming held) left_after → 8 ≤ length held.bytes
-    → option_map (λ bytes. records ports 0 8 0 (drop 8 bytes)) left ≡ later ports 0 8 (record held { bytes = drop 8 held.bytes }) left_after
+    → option_map (λ bytes. records ports 0 8 0 (drop 8 bytes)) left ≡ later (records ports 0 8 0) (record held { bytes = drop 8 held.bytes }) left_after
 unfolding later still
 records_told held left None ports all whole = ap (option_map (λ bytes. records ports 0 8 0 (drop 8 bytes))) all
 records_told held left (Some after) ports all whole =
     ap (option_map (λ bytes. records ports 0 8 0 (drop 8 bytes))) all
     ∙ ap (λ bytes. Some (records ports 0 8 0 bytes)) (coming_past held.bytes held.ended after 8 whole)
 
-pub open_failed : (desk desk_after : Told) (stop : Stop) → IsCaptureStop stop → IfSome (desk.left inputs.Capture) (λ bytes. header bytes ≡ Err stop) → OpenFailed desk desk_after stop
-open_failed desk desk_after stops.Usage is told = is
-open_failed desk desk_after (stops.Rules why) is told = is
-open_failed desk desk_after (stops.Capture offset why) is told = told
-open_failed desk desk_after (stops.Script line why) is told = is
-open_failed desk desk_after stops.TooLong is told = is
-open_failed desk desk_after (stops.ReadFault input) is told = absurd is
-open_failed desk desk_after (stops.WriteFault outlet) is told = is
-open_failed desk desk_after stops.OutOfMemory is told = is
+pub open_failed : (desk desk_after : Told) (fault : RecordFault) → IsFaulty fault → IfSome (desk.left inputs.Capture) (λ bytes. header bytes ≡ Err (record_stop fault)) → OpenFailed desk desk_after fault
+open_failed desk desk_after of_record.Unread is told = absurd is
+open_failed desk desk_after (of_record.Faulty offset why) is told = told

@@ -1,5 +1,5 @@
 -- What the records in a list of bytes say, read record by record.
-use Rattle.std.proofs.Common.{◌≡◌, ℕ, zero, suc, ◌+◌, ◌-◌, ◌<◌, ◌≤◌, true, false, nat_lt, List, [], ◌∷◌, ◌++◌, length, take, drop, slice_range, slice_index, Some, Ok, Err, refl, sym, ap, ◌∙◌, arith, length-drop}
+use Rattle.std.proofs.Common.{◌≡◌, ℕ, zero, suc, ◌+◌, ◌-◌, ◌*◌, ◌<◌, ◌≤◌, true, false, nat_lt, List, [], ◌∷◌, ◌++◌, length, take, drop, slice_range, slice_index, Some, Ok, Err, refl, sym, ap, ◌∙◌, arith, length-drop}
 use Rattle.std.proofs.lemmas.Bool.Decides.{nat_tests}
 use Rattle.std.proofs.lemmas.List.{get_or_append_left, drop-append-le, take-append-le}
 use Rattle.psd_base.specs.declared.stop.CaptureFault.{CaptureFault}
@@ -39,6 +39,18 @@ pub records_faulty : (ports last offset : ℕ) (why : CaptureFault) (bytes : Lis
 unfolding records
 records_faulty ports last offset why [] some faulty = absurd (omega arith)
 records_faulty ports last offset why (byte ∷ bytes) some faulty = rw (faulty, records) refl
+
+-- a head as it is read, byte by byte
+pub head_read : (read bytes : List ℕ) (tick size : ℕ) → read ≡ bytes
+    → tick ≡ slice_index read 0 + slice_index read 1 * 256 + slice_index read 2 * 65536 + slice_index read 3 * 16777216
+    → size ≡ slice_index read 6 + slice_index read 7 * 256
+    → head_of bytes ≡ record { tick = tick; kind = slice_index read 4; who = slice_index read 5; length = size }
+head_read read bytes tick size same tick_is size_is =
+    let first : (head_of read).tick ≡ tick = omega arith in
+    let last : (head_of read).length ≡ size = omega arith in
+    let with_tick : ℕ → Head = λ n. record (head_of read) { tick = n } in
+    let with_size : ℕ → Head = λ n. record (head_of read) { tick = tick; length = n } in
+    ap head_of (sym same) ∙ ap with_tick first ∙ ap with_size last
 
 -- bytes behind a head don't change it
 pub head_of-append : (xs ys : List ℕ) → 8 ≤ length xs → head_of (xs ++ ys) ≡ head_of xs

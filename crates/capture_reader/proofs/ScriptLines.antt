@@ -1,5 +1,5 @@
 -- What looking one line ahead finds, whatever bytes come behind those that are held.
-use Rattle.std.proofs.Common.{◌≡◌, ℕ, zero, suc, ◌+◌, ◌<◌, ◌≤◌, ◌⊎◌, inl, inr, Bool, true, false, nat_lt, List, [], ◌∷◌, length, take, drop, Option, Some, None, option_map, Result, Ok, Err, refl, sym, ap, ◌∙◌, arith, length-append, length-take}
+use Rattle.std.proofs.Common.{◌≡◌, ℕ, zero, suc, ◌+◌, ◌<◌, ◌≤◌, ◌⊎◌, inl, inr, Bool, true, false, nat_lt, List, [], ◌∷◌, length, take, drop, Some, None, Result, Ok, Err, refl, sym, ap, ◌∙◌, arith, length-append, length-take}
 use Rattle.std.proofs.lemmas.Bool.Decides.{nat_tests}
 use Rattle.std.proofs.lemmas.List.{take_all, nil_from_length}
 use Rattle.psd_base.specs.declared.stop.ScriptFault.{ScriptFault}
@@ -7,10 +7,9 @@ use Rattle.psd_base.specs.declared.stop.ScriptFault.TheVariants.{LineTooLong}
 use Rattle.psd_base.specs.declared.stop.Stop.TheVariants as stops
 use Rattle.psd_base.specs.Event.{Seen}
 use Rattle.capture_reader.specs.Schedule.{in_front, over}
-use Rattle.capture_reader.specs.Lines.{later_lines, LinesEnd}
 use Rattle.capture_reader.specs.Script.{first_line, line_at, lines}
-use Rattle.capture_reader.specs.Source.{after_ahead}
-use Rattle.capture_reader.specs.Window.{Held, coming, still, FrontLine}
+use Rattle.capture_reader.specs.Source.{Ends}
+use Rattle.capture_reader.specs.Window.{Held, coming, FrontLine}
 use Rattle.capture_reader.proofs.Looks.{coming_is, coming_ended, coming_past}
 
 -- so many bytes are passed over
@@ -69,14 +68,14 @@ line_of_coming : (ports last : ℕ) (held : Held) (size : ℕ) (answer : Result 
     → (left : List ℕ) → line_at ports last (first_line (coming held left)) ≡ answer
 line_of_coming ports last held size answer front is left = line_at-take ports last (first_line (coming held left)) (take size held.bytes) (front.line left) ∙ is
 
-pub lines_end-empty : (ports last number : ℕ) (held : Held) (size : ℕ) → FrontLine held size → length held.bytes ≡ 0 → LinesEnd ports last number held None
+pub lines_end-empty : (ports last number : ℕ) (held : Held) (size : ℕ) → FrontLine held size → length held.bytes ≡ 0 → Ends (lines ports last number 0) held None
 unfolding lines
 lines_end-empty ports last number held size front none left =
     let ended : held.ended ≡ true = front.last (omega (arith, front.within)) (omega arith) in
     ap (lines ports last number 0) (coming_ended held left ended ∙ nil_from_length held.bytes none)
 
 pub lines_end-faulty : (ports last number : ℕ) (held : Held) (size : ℕ) (why : ScriptFault) → FrontLine held size → 0 < length held.bytes
-    → line_at ports last (take size held.bytes) ≡ Err why → LinesEnd ports last number held (Some (stops.Script number why))
+    → line_at ports last (take size held.bytes) ≡ Err why → Ends (lines ports last number 0) held (Some (stops.Script number why))
 lines_end-faulty ports last number held size why front some faulty left =
     lines_faulty ports last number why (coming held left) (coming_some held left some) (line_of_coming ports last held size (Err why) front faulty left)
 
@@ -106,16 +105,3 @@ line_moves_on ports last number held size event front some short valid left =
     lines_valid ports last number event whole (coming_some held left some) (line_of_coming ports last held size (Ok event) front valid left)
     ∙ ap (λ n. in_front event (lines ports event.tick (number + 1) 0 (drop (n + 1) whole))) line_size
     ∙ ap (λ bytes. in_front event (lines ports event.tick (number + 1) 0 bytes)) (past_line held.bytes held.ended left size (front.last fits))
-
--- the same where the desk may not tell what it has left
-pub later_lines_still : (ports last number : ℕ) (held held_after : Held) (left left_after : Option (List ℕ)) → still held_after left_after ≡ still held left
-    → later_lines ports last number held left ≡ later_lines ports last number held_after left_after
-unfolding later_lines
-later_lines_still ports last number held held_after left left_after same = ap (λ bytes. option_map (lines ports last number 0) bytes) (sym same)
-
-pub later_lines_move : (ports last number ports_after tick place : ℕ) (held held_after : Held) (ahead : Option Seen) (left : Option (List ℕ))
-    → ((bytes : List ℕ) → lines ports last number 0 (coming held bytes) ≡ after_ahead ahead (lines ports_after tick place 0 (coming held_after bytes)))
-    → later_lines ports last number held left ≡ option_map (after_ahead ahead) (later_lines ports_after tick place held_after left)
-unfolding later_lines still
-later_lines_move ports last number ports_after tick place held held_after ahead None moves = refl
-later_lines_move ports last number ports_after tick place held held_after ahead (Some left) moves = ap Some (moves left)

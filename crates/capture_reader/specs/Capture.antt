@@ -1,17 +1,17 @@
 -- The capture: a header of eight bytes, then records to the end of the input. Numbers of several bytes have their low byte first.
-use Rattle.std.specs.Prelude.{ℕ, zero, suc, ◌+◌, ◌-◌, ◌*◌, Bool, ◌&&◌, ◌==◌, nat_lt, nat_le, List, [], ◌∷◌, length, drop, slice_index, slice_range, Some, None, Result, Ok, Err, if◌then◌else◌}
+use Rattle.std.specs.Prelude.{ℕ, zero, suc, ◌+◌, ◌-◌, ◌*◌, Bool, true, false, not, ◌&&◌, ◌==◌, nat_lt, nat_le, List, [], ◌∷◌, length, drop, slice_index, slice_range, Some, None, Result, Ok, Err, if◌then◌else◌}
 use Rattle.psd_base.specs.declared.act.Act.{Act}
 use Rattle.psd_base.specs.declared.act.Act.TheVariants as act
 use Rattle.psd_base.specs.declared.act.Side.TheVariants.{Km, Ua}
 use Rattle.psd_base.specs.declared.console.Plug.{Plug}
-use Rattle.psd_base.specs.declared.console.Plug.TheVariants.{Keyboard, Mouse}
+use Rattle.psd_base.specs.declared.console.Plug.TheVariants.{Keyboard, Mouse, Token}
 use Rattle.psd_base.specs.declared.packet.TheConstants.{BLOCK_SIZE, PACKET_SIZE}
 use Rattle.psd_base.specs.declared.port.TheConstants.{MAX_PORTS}
 use Rattle.psd_base.specs.declared.stop.CaptureFault.{CaptureFault}
 use Rattle.psd_base.specs.declared.stop.CaptureFault.TheVariants.{BadMagic, BadPorts, Truncated, TickBack, BadKind, BadWho, BadLength, BadField}
 use Rattle.psd_base.specs.declared.stop.Stop.{Stop}
 use Rattle.psd_base.specs.declared.stop.Stop.TheVariants as stops
-use Rattle.psd_base.specs.Event.{Doing, TimePasses, Attaches, Detaches, Replies, Reports, Happening, PortActs, AtFront, Seen}
+use Rattle.psd_base.specs.Event.{Doing, TimePasses, Attaches, Detaches, Replies, Reports, Finishes, Happening, PortActs, AtFront, Seen}
 use Rattle.psd_base.specs.Setup.{little_endian, setup_of}
 use Rattle.capture_reader.specs.declared.form.ActKind.{ActKind}
 use Rattle.capture_reader.specs.declared.form.ActKind.TheVariants as acts
@@ -75,10 +75,17 @@ kind_of number =
     else (if number == 0x21 then Ok (kinds.Plug plugs.Detach)
     else (if number == 0x22 then Ok (kinds.Plug plugs.Reply)
     else (if number == 0x23 then Ok (kinds.Plug plugs.Report)
-    else Err BadKind))))))))
+    else (if number == 0x24 then Ok kinds.Job
+    else Err BadKind)))))))))
 
--- Nobody acts at a Clock. The connectors of port p are 40 + p and 80 + p in hexadecimal. The plugs are 1 for the keyboard and 2
--- for the mouse.
+abbrev pub is_report : PlugKind → Bool
+is_report plugs.Attach = false
+is_report plugs.Detach = false
+is_report plugs.Reply = false
+is_report plugs.Report = true
+
+-- Nobody acts at a Clock. The connectors of port p are 40 + p and 80 + p in hexadecimal. The plugs are 1 for the keyboard, 2 for
+-- the mouse and 3 for the token, which sends no reports; it alone does jobs.
 unfoldable pub form_of : Kind → ℕ → ℕ → Result Form CaptureFault
 form_of kinds.Clock ports who = if who == 0 then Ok forms.Clock else Err BadWho
 form_of (kinds.Act kind) ports who =
@@ -88,10 +95,12 @@ form_of (kinds.Act kind) ports who =
 form_of (kinds.Plug kind) ports who =
     if who == 1 then Ok (forms.Plug Keyboard kind)
     else (if who == 2 then Ok (forms.Plug Mouse kind)
-    else Err BadWho)
+    else (if (who == 3) && not (is_report kind) then Ok (forms.Plug Token kind)
+    else Err BadWho))
+form_of kinds.Job ports who = if who == 3 then Ok forms.Job else Err BadWho
 
 -- Setup: address and eight setup bytes. Out: address, endpoint, toggle and 0 to 64 bytes. In: address, endpoint and acked.
--- Reply: life and number in four bytes each, status and 0 to 1,024 bytes. Report: interface and 0 to 64 bytes.
+-- Reply and JobDone: life and number in four bytes each, status and 0 to 1,024 bytes. Report: interface and 0 to 64 bytes.
 unfoldable pub has_fit_length : Kind → ℕ → Bool
 has_fit_length kinds.Clock size = size == 0
 has_fit_length (kinds.Act acts.Reset) size = size == 0
@@ -102,12 +111,14 @@ has_fit_length (kinds.Plug plugs.Attach) size = size == 0
 has_fit_length (kinds.Plug plugs.Detach) size = size == 0
 has_fit_length (kinds.Plug plugs.Reply) size = nat_le 9 size && nat_le size (9 + BLOCK_SIZE)
 has_fit_length (kinds.Plug plugs.Report) size = nat_le 1 size && nat_le size (1 + PACKET_SIZE)
+has_fit_length kinds.Job size = nat_le 9 size && nat_le size (9 + BLOCK_SIZE)
 
 -- the kind of record that has this form
 abbrev pub kind_in : Form → Kind
 kind_in forms.Clock = kinds.Clock
 kind_in (forms.Act port side kind) = kinds.Act kind
 kind_in (forms.Plug plug kind) = kinds.Plug kind
+kind_in forms.Job = kinds.Job
 
 -- what a head announces, or the first of its checks that fails
 unfoldable pub announced : ℕ → ℕ → Head → Result Form CaptureFault
@@ -137,6 +148,10 @@ doing_of plugs.Reply plug payload =
     if nat_le (slice_index payload 8) 3 then Ok (Replies plug (word_at payload 0) (word_at payload 4) (slice_index payload 8) (drop 9 payload)) else Err BadField
 doing_of plugs.Report plug payload = Ok (Reports plug (slice_index payload 0) (drop 1 payload))
 
+unfoldable pub finished_in : List ℕ → Result Doing CaptureFault
+finished_in payload =
+    if nat_le (slice_index payload 8) 3 then Ok (Finishes (word_at payload 0) (word_at payload 4) (slice_index payload 8) (drop 9 payload)) else Err BadField
+
 unfoldable pub happening_in : Form → List ℕ → Result Happening CaptureFault
 happening_in forms.Clock payload = Ok (AtFront TimePasses)
 happening_in (forms.Act port side kind) payload = do
@@ -144,6 +159,9 @@ happening_in (forms.Act port side kind) payload = do
   Ok (PortActs port side acted)
 happening_in (forms.Plug plug kind) payload = do
   done ← doing_of kind plug payload
+  Ok (AtFront done)
+happening_in forms.Job payload = do
+  done ← finished_in payload
   Ok (AtFront done)
 
 -- the record at the front of the bytes, after one of tick `last`, or the first of its checks that fails

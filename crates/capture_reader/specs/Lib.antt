@@ -1,5 +1,6 @@
 pub mod Ahead
 pub mod Capture
+pub mod Fault
 pub mod Lines
 pub mod Merge
 pub mod Progress

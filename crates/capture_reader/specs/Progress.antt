@@ -13,6 +13,7 @@ use Rattle.capture_reader.specs.declared.script.ScriptSource.{ScriptSource}
 use Rattle.capture_reader.specs.declared.source.CaptureSource.{CaptureSource}
 use Rattle.capture_reader.specs.declared.window.TheConstants.{WINDOW_SIZE}
 use Rattle.capture_reader.specs.Ahead.{ahead_of, line_of}
+use Rattle.capture_reader.specs.Fault.{stop_of}
 use Rattle.capture_reader.specs.Lines.{IsNextLine, LinesEndNow}
 use Rattle.capture_reader.specs.Reader.{Following, Reading}
 use Rattle.capture_reader.specs.Source.{EndsNow}
@@ -30,7 +31,7 @@ abbrev pub given_in : State → Option Seen → Option Seen → Option Seen
 given_in Waiting record_ahead line_ahead = None
 given_in GivenRecord record_ahead line_ahead = record_ahead
 given_in GivenLine record_ahead line_ahead = line_ahead
-given_in (Stopped stop) record_ahead line_ahead = None
+given_in (Stopped fault) record_ahead line_ahead = None
 
 -- the record, and the line, that was read ahead and not given
 
@@ -38,19 +39,19 @@ abbrev pub record_waiting : State → Option Seen → Option Seen
 record_waiting Waiting ahead = ahead
 record_waiting GivenRecord ahead = None
 record_waiting GivenLine ahead = ahead
-record_waiting (Stopped stop) ahead = ahead
+record_waiting (Stopped fault) ahead = ahead
 
 abbrev pub line_waiting : State → Option Seen → Option Seen
 line_waiting Waiting ahead = ahead
 line_waiting GivenRecord ahead = ahead
 line_waiting GivenLine ahead = None
-line_waiting (Stopped stop) ahead = ahead
+line_waiting (Stopped fault) ahead = ahead
 
 abbrev pub stop_in : State → Option Stop
 stop_in Waiting = None
 stop_in GivenRecord = None
 stop_in GivenLine = None
-stop_in (Stopped stop) = Some stop
+stop_in (Stopped fault) = Some (stop_of fault)
 
 abbrev pub capture_reading : State → CaptureSource → Following
 capture_reading state source = record {
@@ -85,21 +86,21 @@ abbrev pub read_at_most : State → ℕ → ℕ
 read_at_most Waiting served = served + 2
 read_at_most GivenRecord served = served + 1
 read_at_most GivenLine served = served + 1
-read_at_most (Stopped stop) served = served + 2
+read_at_most (Stopped fault) served = served + 2
 
 -- where no record is ahead and none was given, the capture is at its end
 abbrev pub RecordsFit : State → CaptureSource → Type 0
 RecordsFit Waiting source = IfNone (ahead_of source.ahead) (EndsNow source None)
 RecordsFit GivenRecord source = IsSome (ahead_of source.ahead)
 RecordsFit GivenLine source = IfNone (ahead_of source.ahead) (EndsNow source None)
-RecordsFit (Stopped stop) source = Unit {0}
+RecordsFit (Stopped fault) source = Unit {0}
 
 -- where no line is ahead and none was given, the script is at its end
 abbrev pub LinesFit : State → ScriptSource → Type 0
 LinesFit Waiting source = IfNone (line_of source.ahead) (LinesEndNow source None)
 LinesFit GivenRecord source = IfNone (line_of source.ahead) (LinesEndNow source None)
 LinesFit GivenLine source = IsSome (line_of source.ahead)
-LinesFit (Stopped stop) source = Unit {0}
+LinesFit (Stopped fault) source = Unit {0}
 
 -- an event that was read ahead of its source, whose last tick this is, and is not below the last event that was given; it moves the
 -- panel, or doesn't

@@ -41,19 +41,16 @@ pub record Reading : Type 0 where
   pub capture : Following
   pub script : Following
 
--- the records and the lines that are still to come, where the desk has these bytes left
-
-unfoldable pub records_to_come : ℕ → Following → List ℕ → Schedule
-records_to_come ports source left = after_ahead source.ahead (records ports source.tick source.place 0 (coming source.held left))
-
-unfoldable pub lines_to_come : ℕ → Following → List ℕ → Schedule
-lines_to_come ports source left = after_ahead source.ahead (lines ports source.tick source.place 0 (coming source.held left))
+-- what is still to come of a source, by what its bytes say from there on, where the desk has these left
+unfoldable pub to_come : (List ℕ → Schedule) → Following → List ℕ → Schedule
+to_come walk source left = after_ahead source.ahead (walk (coming source.held left))
 
 -- what is still to come, where the desk has these bytes of the capture and these of the script left
 unfoldable pub upcoming : Reading → List ℕ → List ℕ → Schedule
 upcoming reading capture_left script_left =
     cut_to (reading.limit - reading.served)
-    (merge (lines_to_come reading.ports reading.script script_left) (records_to_come reading.ports reading.capture capture_left))
+    (merge (to_come (lines reading.ports reading.script.tick reading.script.place 0) reading.script script_left)
+    (to_come (records reading.ports reading.capture.tick reading.capture.place 0) reading.capture capture_left))
 
 -- the same where the desk may not tell
 unfoldable pub rest : Reading → Option (List ℕ) → Option (List ℕ) → Option Schedule

@@ -8,7 +8,7 @@ use Rattle.psd_base.specs.declared.outlet.Input.TheVariants as inputs
 use Rattle.psd_base.specs.declared.stop.Stop.{Stop}
 use Rattle.psd_base.specs.declared.stop.Stop.TheVariants as stops
 use Rattle.psd_base.specs.Desk.{Told}
-use Rattle.psd_base.specs.Event.{Happening, PortActs, AtFront, TimePasses, PanelMoves, Attaches, Detaches, Replies, Reports, Seen}
+use Rattle.psd_base.specs.Event.{Happening, PortActs, AtFront, TimePasses, PanelMoves, Attaches, Detaches, Replies, Reports, Finishes, Seen}
 use Rattle.capture_reader.specs.Capture.{header, records}
 use Rattle.capture_reader.specs.Script.{is_line_feed}
 
@@ -21,6 +21,7 @@ moves_panel (AtFront (Attaches plug)) = false
 moves_panel (AtFront (Detaches plug)) = false
 moves_panel (AtFront (Replies plug life number status bytes)) = false
 moves_panel (AtFront (Reports plug interface bytes)) = false
+moves_panel (AtFront (Finishes life number status bytes)) = false
 
 -- whether an event comes from this input
 abbrev pub is_from : Input → Seen → Bool

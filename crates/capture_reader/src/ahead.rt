@@ -6,7 +6,7 @@ ghost use Rattle.capture_reader.specs.Ahead.{ahead_of, kept_happening};
 use arrayvec::ArrayVec;
 use psd_base::{Act, BLOCK_SIZE, Event, Plug, PortId, Side, Tick, What};
 
-/// What a record says. The bytes of a reply or of a report stand beside it.
+/// What a record says. The bytes of a reply, of a report or of a job's end stand beside it.
 #[derive(Drop)]
 pub enum Kept {
     Clock,
@@ -23,10 +23,15 @@ pub enum Kept {
         plug: Plug,
         interface: u8,
     },
+    Job {
+        life: u32,
+        number: u32,
+        status: u8,
+    },
 }
 
-/// The record that was read ahead, if there is one. `bytes` are those of the last reply or report that was read, so that
-/// no other record touches them.
+/// The record that was read ahead, if there is one. `bytes` are those of the last reply, report or job's end that was
+/// read, so that no other record touches them.
 #[derive(Drop)]
 pub struct Ahead {
     pub tick: Tick,
@@ -62,7 +67,7 @@ impl Ahead {
     }
 }
 
-/// What a record says, with these bytes of a reply or of a report.
+/// What a record says, with these bytes of a reply, of a report or of a job's end.
 #[inline(always)]
 fn lend<'a>(kept: &'a Kept, bytes: &'a [u8]) -> What<'a>
     ensures { happening_of result ≡ kept_happening bytes.now kept.now }
@@ -87,6 +92,16 @@ fn lend<'a>(kept: &'a Kept, bytes: &'a [u8]) -> What<'a>
         Kept::Report { plug, interface } => What::Report {
             plug: *plug,
             interface: *interface,
+            bytes,
+        },
+        Kept::Job {
+            life,
+            number,
+            status,
+        } => What::JobDone {
+            life: *life,
+            number: *number,
+            status: *status,
             bytes,
         },
     }

@@ -1,16 +1,21 @@
 //! The bytes of a capture: its header, and the heads of its records.
-ghost use Rattle.std.specs.Prelude.{◌≡◌, ◌≤◌, length, IsTrue, OnOk, IfOk, IfErr, Ok};
-ghost use Rattle.capture_reader.specs.Capture.{header, head_of, kind_of, form_of, has_fit_length, kind_in, announced};
-ghost use Rattle.capture_reader.specs.Source.{IsCaptureStop, IsFormWithin};
+ghost use Rattle.std.specs.Prelude.{◌≡◌, ◌+◌, ◌≤◌, ◌&&◌, nat_lt, nat_le, length, IsTrue, OnOk, IfOk, IfErr, Ok, Err};
+ghost use Rattle.capture_reader.specs.Capture.{header, kind_of, form_of, has_fit_length, kind_in, announced};
+ghost use Rattle.capture_reader.specs.Fault.{record_stop};
+ghost use Rattle.capture_reader.specs.Source.{IsFaulty, IsFormWithin};
 ghost use Rattle.psd_base.specs.Port.{IsPort};
 
+use crate::fault::RecordFault;
 use crate::form::{ActKind, Form, Head, Kind, PlugKind};
-use psd_base::{CaptureFault, MAX_PORTS, Plug, PortId, Side, Stop, Tick};
+use psd_base::{CaptureFault, MAX_PORTS, Plug, PortId, Side, Tick};
 
 /// The size of the capture's header in bytes, and that of a record's head.
 pub const HEAD_SIZE: usize = 8;
 
-/// The most bytes of a payload: those of a reply, nine and a block.
+/// The number of the token's plug.
+const TOKEN: u8 = 3;
+
+/// The most bytes of a payload: those of a reply, or of a job's end, nine and a block.
 pub const PAYLOAD_MAX: u16 = 1033;
 
 /// What is added to a port's number for its KM connector.
@@ -21,45 +26,32 @@ const UA_BASE: u8 = 0x80;
 
 /// The number of ports, or why the header is faulty.
 #[tactic(auto, unfolding(crate::specs::Capture::header))]
-pub fn read_header(bytes: &[u8]) -> Result<u8, Stop>
-    ensures value { result ≡ header bytes.now }
+pub fn read_header(bytes: &[u8]) -> Result<u8, RecordFault>
+    ensures ok { IfOk result (λ ports. header bytes.now ≡ Ok ports) }
+    ensures err { IfErr result (λ fault. header bytes.now ≡ Err (record_stop fault)) }
     ensures ports { IfOk result (λ ports. (2 ≤ ports) × (ports ≤ MAX_PORTS)) }
-    ensures stop { IfErr result IsCaptureStop }
+    ensures fault { IfErr result IsFaulty }
 {
     if bytes.len() < HEAD_SIZE {
-        return Err(Stop::Capture {
+        return Err(RecordFault::Faulty {
             offset: 0,
             why: CaptureFault::Truncated,
         });
     }
     if bytes[0] != b'K' || bytes[1] != b'V' || bytes[2] != b'C' || bytes[3] != b'1' {
-        return Err(Stop::Capture {
+        return Err(RecordFault::Faulty {
             offset: 0,
             why: CaptureFault::BadMagic,
         });
     }
     let ports = bytes[4];
     if ports < 2 || ports > MAX_PORTS || bytes[5] != 0 || bytes[6] != 0 || bytes[7] != 0 {
-        return Err(Stop::Capture {
+        return Err(RecordFault::Faulty {
             offset: 4,
             why: CaptureFault::BadPorts,
         });
     }
     Ok(ports)
-}
-
-/// The head of a record at the front of the bytes.
-#[inline(always)]
-pub fn read_head(bytes: &[u8]) -> Head
-    requires { HEAD_SIZE ≤ length bytes.now }
-    ensures { result ≡ head_of bytes.now }
-{
-    Head {
-        tick: u32::from_le_bytes([bytes[0], bytes[1], bytes[2], bytes[3]]),
-        kind: bytes[4],
-        who: bytes[5],
-        length: u16::from_le_bytes([bytes[6], bytes[7]]),
-    }
 }
 
 /// The kind of this number.
@@ -78,6 +70,7 @@ fn read_kind(number: u8) -> Result<Kind, CaptureFault>
         0x21 => Ok(Kind::Plug(PlugKind::Detach)),
         0x22 => Ok(Kind::Plug(PlugKind::Reply)),
         0x23 => Ok(Kind::Plug(PlugKind::Report)),
+        0x24 => Ok(Kind::Job),
         _ => Err(CaptureFault::BadKind),
     }
 }
@@ -91,13 +84,23 @@ fn read_connector(kind: ActKind, ports: u8, who: u8) -> Result<Form, CaptureFaul
     ensures kind { IfOk result (λ form. kind_in form ≡ Kind.Act kind) }
     ensures within { IfOk result (IsFormWithin ports) }
 {
-    if who > KM_BASE && who <= KM_BASE + ports {
+    if is_behind(KM_BASE, ports, who) {
         return connector(who - KM_BASE, Side::Km, kind);
     }
-    if who > UA_BASE && who <= UA_BASE + ports {
+    if is_behind(UA_BASE, ports, who) {
         return connector(who - UA_BASE, Side::Ua, kind);
     }
     Err(CaptureFault::BadWho)
+}
+
+/// Whether a number is one of those of so many ports behind `base`, by one comparison.
+#[inline(always)]
+fn is_behind(base: u8, ports: u8, who: u8) -> bool
+    requires base { base ≤ UA_BASE }
+    requires ports { ports ≤ MAX_PORTS }
+    ensures { result ≡ (nat_lt base who && nat_le who (base + ports)) }
+{
+    who.wrapping_sub(base + 1) < ports
 }
 
 /// The act at the connector of the port of this number.
@@ -112,7 +115,7 @@ fn connector(number: u8, side: Side, kind: ActKind) -> Result<Form, CaptureFault
     }
 }
 
-/// The plug of which a record speaks: that of the keyboard, or that of the mouse.
+/// The plug of which a record speaks. The token sends no reports.
 #[tactic(auto, unfolding(crate::specs::Capture::form_of))]
 #[inline(always)]
 fn read_plug(kind: PlugKind, ports: u8, who: u8) -> Result<Form, CaptureFault>
@@ -123,6 +126,7 @@ fn read_plug(kind: PlugKind, ports: u8, who: u8) -> Result<Form, CaptureFault>
     match who {
         1 => Ok(Form::Plug(Plug::Keyboard, kind)),
         2 => Ok(Form::Plug(Plug::Mouse, kind)),
+        TOKEN if kind != PlugKind::Report => Ok(Form::Plug(Plug::Token, kind)),
         _ => Err(CaptureFault::BadWho),
     }
 }
@@ -146,6 +150,13 @@ fn read_form(kind: Kind, ports: u8, who: u8) -> Result<Form, CaptureFault>
         }
         Kind::Act(act) => read_connector(act, ports, who),
         Kind::Plug(plug) => read_plug(plug, ports, who),
+        Kind::Job => {
+            if who == TOKEN {
+                Ok(Form::Job)
+            } else {
+                Err(CaptureFault::BadWho)
+            }
+        }
     }
 }
 
@@ -166,6 +177,7 @@ fn fits(kind: Kind, length: u16) -> bool
         Kind::Plug(PlugKind::Detach) => length == 0,
         Kind::Plug(PlugKind::Reply) => 9 <= length && length <= PAYLOAD_MAX,
         Kind::Plug(PlugKind::Report) => 1 <= length && length <= 65,
+        Kind::Job => 9 <= length && length <= PAYLOAD_MAX,
     }
 }
 
@@ -185,8 +197,9 @@ pub fn announce(ports: u8, last: Tick, head: &Head) -> Result<Form, CaptureFault
         return Err(CaptureFault::TickBack);
     }
     let kind = read_kind(head.kind)?;
+    let fits = fits(kind, head.length);
     let form = read_form(kind, ports, head.who)?;
-    if !fits(kind, head.length) {
+    if !fits {
         return Err(CaptureFault::BadLength);
     }
     Ok(form)

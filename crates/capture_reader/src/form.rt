@@ -25,6 +25,8 @@ pub enum Kind {
     Clock,
     Act(ActKind),
     Plug(PlugKind),
+    /// The token has done a job.
+    Job,
 }
 
 /// The first eight bytes of a record. `length` counts the bytes of the payload that follows.
@@ -42,6 +44,7 @@ pub enum Form {
     Clock,
     Act(PortId, Side, ActKind),
     Plug(Plug, PlugKind),
+    Job,
 }
 
 /// What a line of the script says: a tick, and a move at the panel.

@@ -3,6 +3,7 @@
 
 mod ahead;
 mod decode;
+mod fault;
 mod form;
 mod line;
 mod next;

@@ -1,7 +1,7 @@
 //! The payloads of a capture's records.
 ghost use Rattle.std.specs.Prelude.{◌≡◌, ℕ, ◌+◌, ◌≤◌, length, drop, IsTrue, OnOk, OnErr, IfOk, IfErr, IfSome, IsOkAnd, IsSomeAnd, Some, Ok, Err, false};
 ghost use Rattle.capture_reader.specs.Ahead.{ahead_of, kept_happening};
-ghost use Rattle.capture_reader.specs.Capture.{has_fit_length, kind_in, act_of, doing_of, happening_in};
+ghost use Rattle.capture_reader.specs.Capture.{has_fit_length, kind_in, act_of, doing_of, finished_in, happening_in};
 ghost use Rattle.capture_reader.specs.Source.{IsFormWithin};
 ghost use Rattle.capture_reader.specs.Taken.{moves_panel};
 ghost use Rattle.psd_base.specs.Event.{AtFront, HappensWithin};
@@ -37,6 +37,7 @@ pub fn read_record(
         Form::Clock => into.kept = Some(Kept::Clock),
         Form::Act(port, side, kind) => read_act(port, side, kind, payload, into)?,
         Form::Plug(plug, kind) => read_doing(plug, kind, payload, into)?,
+        Form::Job => read_job(payload, into)?,
     }
     into.tick = tick;
     Ok(())
@@ -228,6 +229,28 @@ fn read_report(plug: Plug, payload: &[u8], into: &mut Ahead)
         interface: payload[0],
     });
     keep_bytes(&payload[1..], &mut into.bytes);
+}
+
+/// Puts the end of a job of the token into its place, by the payload of such a record.
+#[tactic(auto, unfolding(crate::specs::Capture::has_fit_length, crate::specs::Capture::finished_in))]
+fn read_job(payload: &[u8], into: &mut Ahead) -> Result<(), CaptureFault>
+    requires { IsTrue (has_fit_length Kind.Job (length payload.now)) }
+    ensures ok { OnOk result (IsOkAnd (finished_in payload.now) (λ doing.
+        IsSomeAnd into.new.kept (λ kept. kept_happening into.new.bytes.items kept ≡ AtFront doing))) }
+    ensures err { IfErr result (λ why. finished_in payload.now ≡ Err why) }
+    ensures same { OnErr result (into.new ≡ into.old) }
+{
+    let status = payload[8];
+    if status > 3 {
+        return Err(CaptureFault::BadField);
+    }
+    into.kept = Some(Kept::Job {
+        life: u32::from_le_bytes([payload[0], payload[1], payload[2], payload[3]]),
+        number: u32::from_le_bytes([payload[4], payload[5], payload[6], payload[7]]),
+        status,
+    });
+    keep_bytes(&payload[9..], &mut into.bytes);
+    Ok(())
 }
 
 /// Writes these bytes over those that were kept.

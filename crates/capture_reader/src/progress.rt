@@ -1,11 +1,10 @@
 //! How far a run has come: the events that were given, and those that were read ahead of the two sources.
-ghost use Rattle.std.specs.Prelude.{◌≡◌};
-
+use crate::fault::{Fault, LineFault, RecordFault};
 use crate::next::{Next, next_source};
 use crate::script::ScriptSource;
 use crate::source::CaptureSource;
 use crate::window::Window;
-use psd_base::{Desk, EVENTS_MAX, Event, Input, MAX_PORTS, Stop, Tick};
+use psd_base::{Desk, EVENTS_MAX, Event, Input, MAX_PORTS, Tick};
 
 /// What became of the last look at the sources.
 #[derive(Clone, Copy, Debug, PartialEq, Eq)]
@@ -17,7 +16,7 @@ pub enum State {
     /// The line that was read ahead was given.
     GivenLine,
     /// The run stopped.
-    Stopped(Stop),
+    Stopped(Fault),
 }
 
 /// How far a run has come.
@@ -32,18 +31,12 @@ pub struct Progress {
     pub state: State,
 }
 
-/// The same stop again.
-fn again(stop: &Stop) -> Stop
-    ensures { result ≡ stop.now }
-{
-    *stop
-}
-
 impl Progress {
     ghost use Rattle.std.specs.Prelude.{◌≡◌, ◌≢◌, ◌⊎◌, ℕ, ◌+◌, ◌<◌, ◌≤◌, List, [], true, false, Option, Some, None, Ok, Err};
-    ghost use Rattle.std.specs.Prelude.{option_map, IsSome, IfSome, IfNone, IfOk, IfErr, OnOk};
+    ghost use Rattle.std.specs.Prelude.{option_map, IsSome, IfSome, IfNone, IfOk, IfErr, OnOk, IsErrAnd};
     ghost use Rattle.psd_base.specs.Event.{seen};
     ghost use Rattle.capture_reader.specs.Ahead.{ahead_of, line_of};
+    ghost use Rattle.capture_reader.specs.Fault.{stop_of};
     ghost use Rattle.capture_reader.specs.Lines.{lines_in, lines_later, lines_with_ahead, FailedLineLook};
     ghost use Rattle.capture_reader.specs.Progress.{reading, script_reading, IsOpened, IsUnread, IsLookedAt, IsSound};
     ghost use Rattle.capture_reader.specs.Reader.{rest, rest_told, records_held, lines_held, TookBoth, EndsAreTrue, GivesNext, IsAtEnd, IsInOrder, IsLooked, IsOver, NewFailed, ShowsOver, StopsBecause};
@@ -59,7 +52,7 @@ impl Progress {
         script: Window,
         desk: &mut D,
         limit: u32,
-    ) -> Result<Progress, Stop>
+    ) -> Result<Progress, Fault>
         requires limit { limit ≤ EVENTS_MAX }
         requires capture { capture ≡ record { bytes = []; ended = false } }
         requires script { script ≡ record { bytes = []; ended = false } }
@@ -73,11 +66,11 @@ impl Progress {
         ensures looked { OnOk result (IsLooked (schedule_told limit (D.told desk.old))) }
         ensures took { IfOk result (λ progress. TookBoth whole_records whole_lines (reading progress)
             (D.told desk.old) (D.told desk.new)) }
-        ensures first { IfErr result (FailsFirst whole_records whole_lines
-            (D.told desk.old) (D.told desk.new)) }
+        ensures first { IfErr result (λ fault. FailsFirst whole_records whole_lines
+            (D.told desk.old) (D.told desk.new) (stop_of fault)) }
         ensures ends { IfOk result (λ progress. EndsAreTrue (reading progress) (D.told desk.new)) }
-        ensures err { IfErr result (NewFailed (schedule_told limit (D.told desk.old))
-            (D.told desk.old) (D.told desk.new) ⊥) }
+        ensures err { IfErr result (λ fault. NewFailed (schedule_told limit (D.told desk.old))
+            (D.told desk.old) (D.told desk.new) ⊥ (stop_of fault)) }
         ensures only { ReadsSources (D.told desk.old) (D.told desk.new) }
     {
         match CaptureSource::open(capture, desk) {
@@ -85,7 +78,7 @@ impl Progress {
                 let script = ScriptSource::new(script, capture.ports);
                 Progress::first_line(capture, script, desk, limit)
             }
-            Err(stop) => Err(stop),
+            Err(fault) => Err(Fault::Record(fault)),
         }
     }
 
@@ -95,7 +88,7 @@ impl Progress {
         script: ScriptSource,
         desk: &mut D,
         limit: u32,
-    ) -> Result<Progress, Stop>
+    ) -> Result<Progress, Fault>
         requires limit { limit ≤ EVENTS_MAX }
         requires capture { IsOpened capture }
         requires script { IsUnread capture.ports script }
@@ -109,19 +102,19 @@ impl Progress {
             OnOk result (IsLooked before) }
         ensures took { IfOk result (λ progress. TookBoth (records_in capture) (lines_in script)
             (reading progress) (D.told desk.old) (D.told desk.new)) }
-        ensures first { IfErr result (FailsFirst (records_in capture) (lines_in script)
-            (D.told desk.old) (D.told desk.new)) }
+        ensures first { IfErr result (λ fault. FailsFirst (records_in capture) (lines_in script)
+            (D.told desk.old) (D.told desk.new) (stop_of fault)) }
         ensures ends { EndIsTrue capture.window ((D.told desk.old).left Input.Capture)
             → EndIsTrue script.window ((D.told desk.old).left Input.Script)
             → IfOk result (λ progress. EndsAreTrue (reading progress) (D.told desk.new)) }
         ensures err { let before = merged limit (records_later capture (D.told desk.old)) (lines_later script (D.told desk.old)) in
-            IfErr result (NewFailed before (D.told desk.old) (D.told desk.new) ⊥) }
+            IfErr result (λ fault. NewFailed before (D.told desk.old) (D.told desk.new) ⊥ (stop_of fault)) }
         ensures only { ReadsSources (D.told desk.old) (D.told desk.new) }
     {
         let mut script = script;
         match script.look(desk) {
             Ok(()) => Progress::first_record(capture, script, desk, limit),
-            Err(stop) => Err(stop),
+            Err(fault) => Err(Fault::Line(fault)),
         }
     }
 
@@ -131,7 +124,7 @@ impl Progress {
         script: ScriptSource,
         desk: &mut D,
         limit: u32,
-    ) -> Result<Progress, Stop>
+    ) -> Result<Progress, Fault>
         requires limit { limit ≤ EVENTS_MAX }
         requires capture { IsOpened capture }
         requires script { IsLookedAt capture.ports script }
@@ -152,10 +145,11 @@ impl Progress {
         ensures took { IfOk result (λ progress. TookBoth (records_in capture)
             (lines_held (script_reading State.Waiting script)) (reading progress) (D.told desk.old) (D.told desk.new)) }
         ensures first { (lines : List ℕ → ℕ)
-            → IfErr result (FailsFirst (records_in capture) lines (D.told desk.old) (D.told desk.new)) }
+            → IfErr result (λ fault. FailsFirst (records_in capture) lines (D.told desk.old) (D.told desk.new)
+            (stop_of fault)) }
         ensures err { (left : Option (List ℕ))
             → let before = merged limit (records_later capture (D.told desk.old)) (lines_with_ahead script left) in
-            IfErr result (NewFailed before (D.told desk.old) (D.told desk.new) ⊥) }
+            IfErr result (λ fault. NewFailed before (D.told desk.old) (D.told desk.new) ⊥ (stop_of fault)) }
         ensures only { OnlyReads Input.Capture (D.told desk.old) (D.told desk.new) }
     {
         let mut capture = capture;
@@ -168,13 +162,13 @@ impl Progress {
                 tick: 0,
                 state: State::Waiting,
             }),
-            Err(stop) => Err(stop),
+            Err(fault) => Err(Fault::Record(fault)),
         }
     }
 
     /// Goes on to the next event, and answers whether there is one.
     #[inline(always)]
-    pub fn advance<D: Desk>(&mut self, desk: &mut D) -> Result<bool, Stop>
+    pub fn advance<D: Desk>(&mut self, desk: &mut D) -> Result<bool, Fault>
         requires sound { IsSound self.old }
         ensures sound { IsSound self.new }
         ensures counts { (self.new.limit ≡ self.old.limit) × (self.new.capture.ports
@@ -195,12 +189,13 @@ impl Progress {
         ensures at_end { IsAtEnd (reading self.old) → (result ≡ Ok false) × (self.new ≡ self.old)
             × (desk.new ≡ desk.old) }
 
-        ensures stop { IfErr result (λ stop. (reading self.new).stopped ≡ Some stop) }
-        ensures cause { IfErr result (λ stop. ((reading self.old).stopped ≡ Some stop)
+        ensures stop { IfErr result (λ fault. (reading self.new).stopped ≡ Some (stop_of fault)) }
+        ensures cause { IfErr result (λ fault. ((reading self.old).stopped ≡ Some (stop_of fault))
             ⊎ StopsBecause (reading self.new) (rest_told (reading self.old) (D.told desk.old))
-            (D.told desk.old) (D.told desk.new) stop) }
+            (D.told desk.old) (D.told desk.new) (stop_of fault)) }
         ensures stopped { IfSome (reading self.old).stopped
-            (λ stop. (result ≡ Err stop) × (self.new ≡ self.old) × (desk.new ≡ desk.old)) }
+            (λ stop. IsErrAnd result (λ fault. stop_of fault ≡ stop) × (self.new ≡ self.old)
+            × (desk.new ≡ desk.old)) }
 
         ensures rest { result ≢ Ok true → rest_told (reading self.new) (D.told desk.new)
             ≡ rest_told (reading self.old) (D.told desk.old) }
@@ -209,8 +204,8 @@ impl Progress {
 
         ensures took { TookBoth (records_held self.old.capture.ports (reading self.old).capture)
             (lines_held (reading self.old).script) (reading self.new) (D.told desk.old) (D.told desk.new) }
-        ensures behind { IfErr result (λ stop. ((reading self.old).stopped ≡ Some stop)
-            ⊎ FailsBehind (reading self.old).given stop) }
+        ensures behind { IfErr result (λ fault. ((reading self.old).stopped ≡ Some (stop_of fault))
+            ⊎ FailsBehind (reading self.old).given (stop_of fault)) }
         ensures looks { Touches (LooksAt (reading self.old).given) NoOutlet
             (D.told desk.old) (D.told desk.new) }
 
@@ -227,22 +222,22 @@ impl Progress {
         ensures only { ReadsSources (D.told desk.old) (D.told desk.new) }
     {
         match &self.state {
-            State::Stopped(stop) => Err(again(stop)),
+            State::Stopped(fault) => Err(*fault),
             State::Waiting => self.give(),
             State::GivenRecord => match self.look_at_record(desk) {
                 Ok(()) => self.give(),
-                Err(stop) => Err(stop),
+                Err(fault) => Err(Fault::Record(fault)),
             },
             State::GivenLine => match self.look_at_line(desk) {
                 Ok(()) => self.give(),
-                Err(stop) => Err(stop),
+                Err(fault) => Err(Fault::Line(fault)),
             },
         }
     }
 
     /// Looks behind the record that was given.
     #[inline(always)]
-    fn look_at_record<D: Desk>(&mut self, desk: &mut D) -> Result<(), Stop>
+    fn look_at_record<D: Desk>(&mut self, desk: &mut D) -> Result<(), RecordFault>
         requires given { self.old.state ≡ State.GivenRecord }
         requires sound { IsSound self.old }
         ensures sound { IsSound self.new }
@@ -259,9 +254,9 @@ impl Progress {
         ensures took { TookBoth (records_held self.old.capture.ports (reading self.old).capture)
             (lines_held (reading self.old).script) (reading self.new) (D.told desk.old) (D.told desk.new) }
         ensures ok { OnOk result (self.new.state ≡ State.Waiting) }
-        ensures err { IfErr result (λ stop. (self.new.state ≡ State.Stopped stop)
+        ensures err { IfErr result (λ fault. (self.new.state ≡ State.Stopped (Fault.Record fault))
             × (ahead_of self.new.capture.ahead ≡ None)
-            × FailedLook self.new.capture (D.told desk.old) (D.told desk.new) stop) }
+            × FailedLook self.new.capture (D.told desk.old) (D.told desk.new) fault) }
         ensures only { OnlyReads Input.Capture (D.told desk.old) (D.told desk.new) }
     {
         match self.capture.look(desk) {
@@ -269,16 +264,15 @@ impl Progress {
                 self.state = State::Waiting;
                 Ok(())
             }
-            Err(stop) => {
-                let answer = again(&stop);
-                self.state = State::Stopped(stop);
-                Err(answer)
+            Err(fault) => {
+                self.state = State::Stopped(Fault::Record(fault));
+                Err(fault)
             }
         }
     }
 
     /// Looks behind the line that was given.
-    fn look_at_line<D: Desk>(&mut self, desk: &mut D) -> Result<(), Stop>
+    fn look_at_line<D: Desk>(&mut self, desk: &mut D) -> Result<(), LineFault>
         requires given { self.old.state ≡ State.GivenLine }
         requires sound { IsSound self.old }
         ensures sound { IsSound self.new }
@@ -295,9 +289,9 @@ impl Progress {
         ensures took { TookBoth (records_held self.old.capture.ports (reading self.old).capture)
             (lines_held (reading self.old).script) (reading self.new) (D.told desk.old) (D.told desk.new) }
         ensures ok { OnOk result (self.new.state ≡ State.Waiting) }
-        ensures err { IfErr result (λ stop. (self.new.state ≡ State.Stopped stop)
+        ensures err { IfErr result (λ fault. (self.new.state ≡ State.Stopped (Fault.Line fault))
             × (line_of self.new.script.ahead ≡ None)
-            × FailedLineLook self.new.script (D.told desk.old) (D.told desk.new) stop) }
+            × FailedLineLook self.new.script (D.told desk.old) (D.told desk.new) fault) }
         ensures only { OnlyReads Input.Script (D.told desk.old) (D.told desk.new) }
     {
         match self.script.look(desk) {
@@ -305,17 +299,16 @@ impl Progress {
                 self.state = State::Waiting;
                 Ok(())
             }
-            Err(stop) => {
-                let answer = again(&stop);
-                self.state = State::Stopped(stop);
-                Err(answer)
+            Err(fault) => {
+                self.state = State::Stopped(Fault::Line(fault));
+                Err(fault)
             }
         }
     }
 
     /// Gives the next of the events that were read ahead and not given, and answers whether there is one.
     #[inline(always)]
-    fn give(&mut self) -> Result<bool, Stop>
+    fn give(&mut self) -> Result<bool, Fault>
         requires waiting { self.old.state ≡ State.Waiting }
         requires sound { IsSound self.old }
         ensures sound { IsSound self.new }
@@ -342,9 +335,9 @@ impl Progress {
         ensures took { (told : Told)
             → TookBoth (records_held self.old.capture.ports (reading self.old).capture)
             (lines_held (reading self.old).script) (reading self.new) told told }
-        ensures stop { IfErr result (λ stop. (stop ≡ Stop.TooLong)
-            × (self.new ≡ record self.old { state = State.Stopped Stop.TooLong })
-            × ShowsOver (Some Stop.TooLong) (reading self.new) × (self.old.served ≡ self.old.limit)) }
+        ensures stop { IfErr result (λ fault. (fault ≡ Fault.TooMany)
+            × (self.new ≡ record self.old { state = State.Stopped Fault.TooMany })
+            × ShowsOver (Some (stop_of Fault.TooMany)) (reading self.new) × (self.old.served ≡ self.old.limit)) }
     {
         match next_source(&self.capture.ahead, &self.script.ahead) {
             Next::Record => self.go_on(State::GivenRecord, self.capture.tick),
@@ -355,17 +348,17 @@ impl Progress {
 
     /// Counts an event of this tick as given, unless it is one too many.
     #[inline(always)]
-    fn go_on(&mut self, given: State, tick: Tick) -> Result<bool, Stop>
+    fn go_on(&mut self, given: State, tick: Tick) -> Result<bool, Fault>
         requires { self.old.served ≤ self.old.limit }
         ensures more { result ≡ Ok true → (self.old.served < self.old.limit)
             × (self.new ≡ record self.old { served = self.old.served + 1; tick = tick; state = given }) }
         ensures some { result ≢ Ok false }
-        ensures full { IfErr result (λ stop. (stop ≡ Stop.TooLong) × (self.old.served ≡ self.old.limit)
-            × (self.new ≡ record self.old { state = State.Stopped Stop.TooLong })) }
+        ensures full { IfErr result (λ fault. (fault ≡ Fault.TooMany) × (self.old.served ≡ self.old.limit)
+            × (self.new ≡ record self.old { state = State.Stopped Fault.TooMany })) }
     {
         if self.served == self.limit {
-            self.state = State::Stopped(Stop::TooLong);
-            return Err(Stop::TooLong);
+            self.state = State::Stopped(Fault::TooMany);
+            return Err(Fault::TooMany);
         }
         self.served += 1;
         self.tick = tick;

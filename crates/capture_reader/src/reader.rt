@@ -62,7 +62,7 @@ impl Reader {
         match buffers(alloc) {
             Ok((capture, script)) => match Progress::begin(capture, script, desk, limit) {
                 Ok(progress) => Ok(Reader { progress }),
-                Err(stop) => Err(stop),
+                Err(fault) => Err(fault.stop()),
             },
             Err(_) => Err(Stop::OutOfMemory),
         }
@@ -141,7 +141,10 @@ impl Reader {
             × (self.old.tick ≤ self.new.tick) }
         ensures desk { ReadsSources (D.told desk.old) (D.told desk.new) }
     {
-        self.progress.advance(desk)
+        match self.progress.advance(desk) {
+            Ok(more) => Ok(more),
+            Err(fault) => Err(fault.stop()),
+        }
     }
 
     /// The event that the last `advance` went on to. It borrows its act or its bytes from the reader.

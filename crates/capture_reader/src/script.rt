@@ -1,8 +1,9 @@
 //! A script as a source of events, read one line ahead.
+use crate::fault::LineFault;
 use crate::form::Said;
 use crate::line::{LINE_MAX, read_line};
 use crate::window::Window;
-use psd_base::{Desk, Event, Input, ScriptFault, Stop, Tick, What};
+use psd_base::{Desk, Event, Input, ScriptFault, Tick, What};
 
 /// A script, and the line that was read ahead.
 #[derive(Drop)]
@@ -44,7 +45,7 @@ impl ScriptSource {
     }
 
     /// Looks at the next line. Afterwards it is the one that was read ahead, or there is none at the end of the script.
-    pub fn look<D: Desk>(&mut self, desk: &mut D) -> Result<(), Stop>
+    pub fn look<D: Desk>(&mut self, desk: &mut D) -> Result<(), LineFault>
         requires { self.old.line < 2 ^ 31 }
         ensures ports { self.new.ports ≡ self.old.ports }
         ensures tick { self.old.tick ≤ self.new.tick }
@@ -72,12 +73,12 @@ impl ScriptSource {
         self.ahead = None;
         match self.window.hold_line(desk, Input::Script) {
             Ok(size) => self.take_line(size),
-            Err(_) => Err(Stop::ReadFault(Input::Script)),
+            Err(_) => Err(LineFault::Unread),
         }
     }
 
     /// The next line, of so many bytes, becomes the one that was read ahead, or there is none at the end of the script.
-    fn take_line(&mut self, size: usize) -> Result<(), Stop>
+    fn take_line(&mut self, size: usize) -> Result<(), LineFault>
         requires front { FrontLine self.old.window size }
         requires none { self.old.ahead ≡ None }
         requires line { self.old.line < 2 ^ 31 }
@@ -125,10 +126,10 @@ impl ScriptSource {
     }
 
     /// The fault of the next line.
-    fn fault(&self, why: ScriptFault) -> Stop
-        ensures { result ≡ Stop.Script self.now.line why }
+    fn fault(&self, why: ScriptFault) -> LineFault
+        ensures { result ≡ LineFault.Faulty self.now.line why }
     {
-        Stop::Script {
+        LineFault::Faulty {
             line: self.line,
             why,
         }

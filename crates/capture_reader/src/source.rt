@@ -1,10 +1,11 @@
 //! A capture as a source of events, read one record ahead.
 use crate::ahead::Ahead;
-use crate::decode::{HEAD_SIZE, announce, read_head, read_header};
+use crate::decode::{HEAD_SIZE, announce, read_header};
+use crate::fault::RecordFault;
 use crate::form::{Form, Head};
 use crate::payload::read_record;
 use crate::window::{WINDOW_SIZE, Window};
-use psd_base::{CaptureFault, Desk, Input, MAX_PORTS, Stop, Tick};
+use psd_base::{CaptureFault, Desk, Input, MAX_PORTS, Tick};
 
 /// A capture whose header was read, and the record that was read ahead.
 #[derive(Drop)]
@@ -23,14 +24,15 @@ impl CaptureSource {
     ghost use Rattle.std.specs.Prelude.{IfOk, IfErr, IfSome, IfNone, IsSomeAnd, OnOk, OnErr};
     ghost use Rattle.capture_reader.specs.Ahead.{ahead_of};
     ghost use Rattle.capture_reader.specs.Capture.{header, size_of, records};
+    ghost use Rattle.capture_reader.specs.Fault.{record_stop};
     ghost use Rattle.capture_reader.specs.Schedule.{in_front};
-    ghost use Rattle.capture_reader.specs.Source.{later, records_later, records_in, after_ahead, AnnouncesNext, EndsNow, FailedLook, IsCaptureStop, IsNext, LookFailed, OpenFailed};
+    ghost use Rattle.capture_reader.specs.Source.{later, records_later, records_in, after_ahead, AnnouncesNext, EndsNow, FailedLook, IsFaulty, IsNext, LookFailed, OpenFailed};
     ghost use Rattle.psd_base.specs.Desk.{OnlyReads, Told};
     ghost use Rattle.capture_reader.specs.Taken.{waiting, whole_records, whole_lines, Took, FailsFirst};
     ghost use Rattle.capture_reader.specs.Window.{coming, still, EndIsTrue, HeldMore};
 
     /// Reads the header of a capture.
-    pub fn open<D: Desk>(window: Window, desk: &mut D) -> Result<CaptureSource, Stop>
+    pub fn open<D: Desk>(window: Window, desk: &mut D) -> Result<CaptureSource, RecordFault>
         requires { window ≡ record { bytes = []; ended = false } }
         ensures ports { IfOk result (λ source. (2 ≤ source.ports) × (source.ports ≤ MAX_PORTS)) }
         ensures begin { IfOk result (λ source. (source.tick ≡ 0) × (source.offset ≡ 8)
@@ -39,11 +41,11 @@ impl CaptureSource {
             (λ bytes. header bytes ≡ Ok source.ports)) }
         ensures records { IfOk result (λ source. option_map
             (λ bytes. records source.ports 0 8 0 (drop 8 bytes)) ((D.told desk.old).left Input.Capture)
-            ≡ later source.ports 0 8 source.window ((D.told desk.new).left Input.Capture)) }
+            ≡ later (records source.ports 0 8 0) source.window ((D.told desk.new).left Input.Capture)) }
         ensures took { IfOk result (λ source. Took whole_records (records_in source) false
             ((D.told desk.old).left Input.Capture) ((D.told desk.new).left Input.Capture) 0) }
-        ensures first { IfErr result (FailsFirst whole_records whole_lines
-            (D.told desk.old) (D.told desk.new)) }
+        ensures first { IfErr result (λ fault. FailsFirst whole_records whole_lines
+            (D.told desk.old) (D.told desk.new) (record_stop fault)) }
         ensures ends { IfOk result (λ source. EndIsTrue source.window ((D.told desk.new).left Input.Capture)) }
         ensures err { IfErr result (OpenFailed (D.told desk.old) (D.told desk.new)) }
         ensures only { OnlyReads Input.Capture (D.told desk.old) (D.told desk.new) }
@@ -51,23 +53,24 @@ impl CaptureSource {
         let mut window = window;
         match window.hold(desk, Input::Capture, HEAD_SIZE) {
             Ok(true) => CaptureSource::behind_header(window),
-            Ok(false) => Err(Stop::Capture {
+            Ok(false) => Err(RecordFault::Faulty {
                 offset: 0,
                 why: CaptureFault::Truncated,
             }),
-            Err(_) => Err(Stop::ReadFault(Input::Capture)),
+            Err(_) => Err(RecordFault::Unread),
         }
     }
 
     /// The records behind the header, which is held.
-    fn behind_header(window: Window) -> Result<CaptureSource, Stop>
+    fn behind_header(window: Window) -> Result<CaptureSource, RecordFault>
         requires { 8 ≤ length window.bytes }
         ensures ports { IfOk result (λ source. (2 ≤ source.ports) × (source.ports ≤ MAX_PORTS)) }
         ensures begin { IfOk result (λ source. (source.tick ≡ 0) × (source.offset ≡ 8)
             × (ahead_of source.ahead ≡ None)) }
         ensures behind { IfOk result (λ source. (header window.bytes ≡ Ok source.ports)
             × (source.window ≡ record window { bytes = drop 8 window.bytes })) }
-        ensures err { IfErr result (λ stop. (header window.bytes ≡ Err stop) × IsCaptureStop stop) }
+        ensures err { IfErr result (λ fault. (header window.bytes ≡ Err (record_stop fault))
+            × IsFaulty fault) }
     {
         match read_header(window.bytes()) {
             Ok(ports) => {
@@ -81,13 +84,13 @@ impl CaptureSource {
                     ahead: Ahead::new(),
                 })
             }
-            Err(stop) => Err(stop),
+            Err(fault) => Err(fault),
         }
     }
 
     /// Looks at the next record. Afterwards it is the one that was read ahead, or there is none at the end of the capture.
     #[inline(always)]
-    pub fn look<D: Desk>(&mut self, desk: &mut D) -> Result<(), Stop>
+    pub fn look<D: Desk>(&mut self, desk: &mut D) -> Result<(), RecordFault>
         requires ports { self.old.ports ≤ MAX_PORTS }
         requires offset { self.old.offset < 2 ^ 63 }
         ensures ports { self.new.ports ≡ self.old.ports }
@@ -116,9 +119,9 @@ impl CaptureSource {
         match self.window.hold(desk, Input::Capture, HEAD_SIZE) {
             Ok(true) => match self.look_at_head(desk) {
                 Ok(()) => Ok(()),
-                Err(stop) => {
+                Err(fault) => {
                     self.ahead.kept = None;
-                    Err(stop)
+                    Err(fault)
                 }
             },
             Ok(false) => {
@@ -127,14 +130,14 @@ impl CaptureSource {
             }
             Err(_) => {
                 self.ahead.kept = None;
-                Err(Stop::ReadFault(Input::Capture))
+                Err(RecordFault::Unread)
             }
         }
     }
 
     /// Looks at the next record, whose head is held.
     #[inline(always)]
-    fn look_at_head<D: Desk>(&mut self, desk: &mut D) -> Result<(), Stop>
+    fn look_at_head<D: Desk>(&mut self, desk: &mut D) -> Result<(), RecordFault>
         requires whole { 8 ≤ length self.old.window.bytes }
         requires ports { self.old.ports ≤ MAX_PORTS }
         requires offset { self.old.offset < 2 ^ 63 }
@@ -159,7 +162,13 @@ impl CaptureSource {
             → EndIsTrue self.new.window ((D.told desk.new).left Input.Capture) }
         ensures only { OnlyReads Input.Capture (D.told desk.old) (D.told desk.new) }
     {
-        let head = read_head(self.window.bytes());
+        let bytes = self.window.bytes();
+        let head = Head {
+            tick: u32::from_le_bytes([bytes[0], bytes[1], bytes[2], bytes[3]]),
+            kind: bytes[4],
+            who: bytes[5],
+            length: u16::from_le_bytes([bytes[6], bytes[7]]),
+        };
         match announce(self.ports, self.tick, &head) {
             Ok(form) => self.look_at_payload(desk, &head, form),
             Err(why) => Err(self.fault(why)),
@@ -173,7 +182,7 @@ impl CaptureSource {
         desk: &mut D,
         head: &Head,
         form: Form,
-    ) -> Result<(), Stop>
+    ) -> Result<(), RecordFault>
         requires sound { AnnouncesNext self.old head.now form }
         requires offset { self.old.offset < 2 ^ 63 }
         ensures ports { self.new.ports ≡ self.old.ports }
@@ -201,12 +210,12 @@ impl CaptureSource {
         match self.window.hold(desk, Input::Capture, size) {
             Ok(true) => self.take_record(head, form),
             Ok(false) => Err(self.fault(CaptureFault::Truncated)),
-            Err(_) => Err(Stop::ReadFault(Input::Capture)),
+            Err(_) => Err(RecordFault::Unread),
         }
     }
 
     /// No record, where the input ended before a head is whole: the end of the capture, or a head that is cut off.
-    fn end(&self) -> Result<(), Stop>
+    fn end(&self) -> Result<(), RecordFault>
         requires ended { self.now.window.ended ≡ true }
         requires short { length self.now.window.bytes < 8 }
         ensures ok { OnOk result (EndsNow self.now None) }
@@ -219,10 +228,10 @@ impl CaptureSource {
     }
 
     /// The fault of the next record.
-    fn fault(&self, why: CaptureFault) -> Stop
-        ensures { result ≡ Stop.Capture self.now.offset why }
+    fn fault(&self, why: CaptureFault) -> RecordFault
+        ensures { result ≡ RecordFault.Faulty self.now.offset why }
     {
-        Stop::Capture {
+        RecordFault::Faulty {
             offset: self.offset,
             why,
         }
@@ -230,7 +239,7 @@ impl CaptureSource {
 
     /// The next record, which is held, becomes the one that was read ahead.
     #[inline(always)]
-    fn take_record(&mut self, head: &Head, form: Form) -> Result<(), Stop>
+    fn take_record(&mut self, head: &Head, form: Form) -> Result<(), RecordFault>
         requires sound { AnnouncesNext self.old head.now form }
         requires enough { size_of head.now ≤ length self.old.window.bytes }
         requires offset { self.old.offset < 2 ^ 63 }

@@ -1,6 +1,7 @@
 -- Loops over the ranges of a field and over the bits of an element.
-use Rattle.std.proofs.Common.{◌≡◌, ℕ, zero, suc, ◌+◌, ◌-◌, ◌*◌, ◌^◌, ◌<◌, ◌≤◌, Bool, true, false, cond, List, [], ◌∷◌, ◌++◌, length, get_or, drop, Option, Some, None, refl, ap, ◌∙◌, arith, nat_lt, nat_le, add-one}
-use Rattle.std.proofs.Math.Nat.{pow-suc}
+use Rattle.std.proofs.Common.{◌≡◌, ℕ, zero, suc, ◌+◌, ◌-◌, ◌*◌, ◌/◌, ◌%◌, ◌^◌, ◌<◌, ◌≤◌, Bool, true, false, cond, List, [], ◌∷◌, ◌++◌, length, slice_index, get_or, drop, Option, Some, None, refl, sym, ap, ◌∙◌, arith, nat_lt, nat_le}
+use Rattle.std.proofs.Math.Nat.{mul-le-mul_right, div-div-eq-div-mul}
+use Rattle.std.proofs.lemmas.Nat.{pow-add, mod-pow-add}
 use Rattle.std.specs.List.{list_any}
 use Rattle.std.specs.Option.{option_to_list}
 use Rattle.hid_report.specs.declared.field.Field.{Field}
@@ -77,24 +78,71 @@ more-none last spans i h = at_drop_all (last_usage last) spans i h ∙ nothing
 
 pub ruleset usage_steps = (next-empty, next-here, next-later, next-none, more-empty, more-full, more-none)
 
--- one more bit
 pub raw_bits-none : (report : List ℕ) (place : ℕ) → raw_bits report place 0 ≡ 0
 unfolding raw_bits
 raw_bits-none report place = refl
 
-pub raw_bits-more : (report : List ℕ) (place n : ℕ) → raw_bits report place (n + 1) ≡ raw_bits report place n + bit_of report (place + n) * 2 ^ n
+-- one more bit
+pub raw_bits-suc : (report : List ℕ) (place n : ℕ) → raw_bits report place (suc n) ≡ raw_bits report place n + bit_of report (place + n) * 2 ^ n
 unfolding raw_bits
-raw_bits-more report place n = rw add-one refl
+raw_bits-suc report place n = refl
 
-pub ruleset bit_steps = (raw_bits-none, raw_bits-more)
+-- a bit of the byte in which the bits before it lie
+bit-beside : (report : List ℕ) (place k : ℕ) → place % 8 + k < 8 → bit_of report (place + k) ≡ slice_index report (place / 8) / 2 ^ (place % 8) / 2 ^ k % 2
+bit-beside report place k h =
+    let same : (place + k) / 8 ≡ place / 8 = omega arith in
+    let later : (place + k) % 8 ≡ place % 8 + k = omega arith in
+    rw (same, later, pow-add 2 (place % 8) k) (ap (λ n. n % 2) (sym (div-div-eq-div-mul (slice_index report (place / 8)) (2 ^ (place % 8)) (2 ^ k))))
 
-pub next-weight : (w i : ℕ) → w ≡ 2 ^ i → w * 2 ≡ 2 ^ (i + 1)
-next-weight w i h = rw (add-one, pow-suc) (ap (λ v. v * 2) h)
+spread : (value low bit weight w : ℕ) → value + low * weight + bit * (weight * w) ≡ value + (bit * w + low) * weight
+spread value low bit weight w = omega arith
 
-pub next-fits : (v b w : ℕ) → v < w → b < 2 → v + b * w < w * 2
-next-fits v zero w h k = omega arith
-next-fits v (suc zero) w h k = omega arith
-next-fits v (suc (suc b)) w h k = absurd (omega arith)
+-- bits of one byte more
+pub raw_bits-piece : (report : List ℕ) (place n k : ℕ) → (place + n) % 8 + k ≤ 8
+    → raw_bits report place (n + k) ≡ raw_bits report place n + slice_index report ((place + n) / 8) / 2 ^ ((place + n) % 8) % 2 ^ k * 2 ^ n
+raw_bits-piece report place n zero h =
+    let same : n + 0 ≡ n = omega arith in
+    let nothing : slice_index report ((place + n) / 8) / 2 ^ ((place + n) % 8) % 1 ≡ 0 = omega arith in
+    rw (same, nothing) (omega arith)
+raw_bits-piece report place n (suc k) h =
+    let byte : ℕ = slice_index report ((place + n) / 8) / 2 ^ ((place + n) % 8) in
+    let one_more : n + suc k ≡ suc (n + k) = omega arith in
+    let before : raw_bits report place (n + k) ≡ raw_bits report place n + byte % 2 ^ k * 2 ^ n = raw_bits-piece report place n k (omega arith) in
+    let along : place + (n + k) ≡ place + n + k = omega arith in
+    let width : 1 + k ≡ suc k = omega arith in
+    let bit : bit_of report (place + (n + k)) ≡ byte / 2 ^ k % 2 = ap (bit_of report) along ∙ bit-beside report (place + n) k (omega arith) in
+    let both : byte % 2 ^ (1 + k) ≡ byte / 2 ^ k % 2 * 2 ^ k + byte % 2 ^ k = mod-pow-add byte 1 k in
+    ap (raw_bits report place) one_more
+    ∙ raw_bits-suc report place (n + k)
+    ∙ ap (λ v. v + bit_of report (place + (n + k)) * 2 ^ (n + k)) before
+    ∙ ap (λ b. raw_bits report place n + byte % 2 ^ k * 2 ^ n + b * 2 ^ (n + k)) bit
+    ∙ ap (λ w. raw_bits report place n + byte % 2 ^ k * 2 ^ n + byte / 2 ^ k % 2 * w) (pow-add 2 n k)
+    ∙ spread (raw_bits report place n) (byte % 2 ^ k) (byte / 2 ^ k % 2) (2 ^ n) (2 ^ k)
+    ∙ ap (λ v. raw_bits report place n + v * 2 ^ n) (sym both)
+    ∙ ap (λ w. raw_bits report place n + byte % 2 ^ w * 2 ^ n) width
+
+-- bits that lie in one byte
+pub raw_bits-one : (report : List ℕ) (place k : ℕ) → place % 8 + k ≤ 8 → raw_bits report place k ≡ slice_index report (place / 8) / 2 ^ (place % 8) % 2 ^ k
+raw_bits-one report place k h =
+    let same : place + 0 ≡ place = omega arith in
+    let start : raw_bits report place (0 + k) ≡ raw_bits report place 0 + slice_index report ((place + 0) / 8) / 2 ^ ((place + 0) % 8) % 2 ^ k * 2 ^ 0 =
+    raw_bits-piece report place 0 k (omega arith) in
+    let all : 0 + k ≡ k = omega arith in
+    sym (ap (raw_bits report place) all) ∙ start
+    ∙ ap (λ p. raw_bits report place 0 + slice_index report (p / 8) / 2 ^ (p % 8) % 2 ^ k * 2 ^ 0) same
+    ∙ alone (raw_bits report place 0) (slice_index report (place / 8) / 2 ^ (place % 8) % 2 ^ k) (raw_bits-none report place)
+  where
+    alone : (none piece : ℕ) → none ≡ 0 → none + piece * 1 ≡ piece
+    alone none piece is = omega (arith, is)
+
+pub ruleset piece_steps = (raw_bits-one)
+
+-- the digits so far and `k` more
+pub next-fits : (value piece n k : ℕ) → value < 2 ^ n → piece < 2 ^ k → value + piece * 2 ^ n < 2 ^ (n + k)
+next-fits value piece n k h p =
+    let weight : 2 ^ (n + k) ≡ 2 ^ n * 2 ^ k = pow-add 2 n k in
+    let most : (piece + 1) * 2 ^ n ≤ 2 ^ k * 2 ^ n = mul-le-mul_right (2 ^ n) (omega arith) in
+    rw weight (omega (arith, most, h))
 
 -- one element more of a field's usages
 element_usages-more : (spans : List Span) (j n : ℕ) → j < n → element_usages spans j (n - j) ≡ option_to_list (element_usage spans j) ++ element_usages spans (j + 1) (n - (j + 1))
@@ -103,7 +151,7 @@ element_usages-more spans j n h =
     let more : n - j ≡ suc (n - (j + 1)) = omega arith in
     rw more refl
 
-down_from-more : (field : Field) (numbered : Bool) (report : List ℕ) (j n : ℕ) → j < n
+pub down_from-more : (field : Field) (numbered : Bool) (report : List ℕ) (j n : ℕ) → j < n
     → down_from field numbered report j (n - j) ≡ option_to_list (down_usage field numbered report j) ++ down_from field numbered report (j + 1) (n - (j + 1))
 unfolding down_from
 down_from-more field numbered report j n h =
@@ -117,11 +165,11 @@ find_element-more wanted spans j n h =
     let more : n - j ≡ suc (n - (j + 1)) = omega arith in
     rw more refl
 
-one-true : (test : ℕ → Bool) (o : Option ℕ) (rest : List ℕ) → is_one test o ≡ true → list_any test (option_to_list o ++ rest) ≡ true
+pub one-true : (test : ℕ → Bool) (o : Option ℕ) (rest : List ℕ) → is_one test o ≡ true → list_any test (option_to_list o ++ rest) ≡ true
 one-true test None rest h = absurd (cc)
 one-true test (Some usage) rest h = rw h refl
 
-one-false : (test : ℕ → Bool) (o : Option ℕ) (rest : List ℕ) → is_one test o ≡ false → list_any test (option_to_list o ++ rest) ≡ list_any test rest
+pub one-false : (test : ℕ → Bool) (o : Option ℕ) (rest : List ℕ) → is_one test o ≡ false → list_any test (option_to_list o ++ rest) ≡ list_any test rest
 one-false test None rest h = refl
 one-false test (Some usage) rest h = rw h refl
 
@@ -150,20 +198,23 @@ pub find-end : (wanted : ℕ) (spans : List Span) (j n : ℕ) → n ≤ j → fi
 unfolding find_element
 find-end wanted spans j n h = let nothing : n - j ≡ 0 = omega arith in rw nothing refl
 
-pub down-here : (test : ℕ → Bool) (field : Field) (numbered : Bool) (report : List ℕ) (j n : ℕ) → j < n → is_one test (down_usage field numbered report j) ≡ true
-    → list_any test (down_from field numbered report j (n - j)) ≡ true
-down-here test field numbered report j n h e =
-    rw (down_from-more field numbered report j n h) (one-true test (down_usage field numbered report j) (down_from field numbered report (j + 1) (n - (j + 1))) e)
-
-pub down-later : (test : ℕ → Bool) (field : Field) (numbered : Bool) (report : List ℕ) (j n : ℕ) → j < n → is_one test (down_usage field numbered report j) ≡ false
-    → list_any test (down_from field numbered report j (n - j)) ≡ list_any test (down_from field numbered report (j + 1) (n - (j + 1)))
-down-later test field numbered report j n h e =
-    rw (down_from-more field numbered report j n h) (one-false test (down_usage field numbered report j) (down_from field numbered report (j + 1) (n - (j + 1))) e)
-
 pub down-end : (test : ℕ → Bool) (field : Field) (numbered : Bool) (report : List ℕ) (j n : ℕ) → n ≤ j
     → list_any test (down_from field numbered report j (n - j)) ≡ false
 unfolding down_from
 down-end test field numbered report j n h = let nothing : n - j ≡ 0 = omega arith in rw nothing refl
+
+-- what is left to look through, at an element that says nothing and at one that says a usage
+pub named-none : (test : ℕ → Bool) (field : Field) (numbered : Bool) (report : List ℕ) (j n : ℕ) → j < n → down_usage field numbered report j ≡ None
+    → list_any test (down_from field numbered report j (n - j)) ≡ list_any test (down_from field numbered report (j + 1) (n - (j + 1)))
+named-none test field numbered report j n h e = rw (down_from-more field numbered report j n h, e) refl
+
+pub named-here : (test : ℕ → Bool) (field : Field) (numbered : Bool) (report : List ℕ) (j n usage : ℕ) → j < n → down_usage field numbered report j ≡ Some usage
+    → test usage ≡ true → list_any test (down_from field numbered report j (n - j)) ≡ true
+named-here test field numbered report j n usage h e is = rw (down_from-more field numbered report j n h, e, is) refl
+
+pub named-later : (test : ℕ → Bool) (field : Field) (numbered : Bool) (report : List ℕ) (j n usage : ℕ) → j < n → down_usage field numbered report j ≡ Some usage
+    → test usage ≡ false → list_any test (down_from field numbered report j (n - j)) ≡ list_any test (down_from field numbered report (j + 1) (n - (j + 1)))
+named-later test field numbered report j n usage h e is = rw (down_from-more field numbered report j n h, e, is) refl
 
 pub press-none : (keys : List Bool) (field : Field) (numbered : Bool) (report : List ℕ) (j n : ℕ) → j < n → down_usage field numbered report j ≡ None
     → press_all keys (down_from field numbered report j (n - j)) ≡ press_all keys (down_from field numbered report (j + 1) (n - (j + 1)))
@@ -179,4 +230,4 @@ pub press-end : (keys : List Bool) (field : Field) (numbered : Bool) (report : L
 unfolding down_from press_all
 press-end keys field numbered report j n h = let nothing : n - j ≡ 0 = omega arith in rw nothing refl
 
-pub ruleset element_steps = (any-here, any-later, any-end, find-here, find-later, find-end, down-here, down-later, down-end, press-none, press-some, press-end)
+pub ruleset element_steps = (any-here, any-later, any-end, find-here, find-later, find-end, named-none, named-here, named-later, down-end, press-none, press-some, press-end)

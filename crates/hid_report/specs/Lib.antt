@@ -10,3 +10,6 @@ pub mod LayoutValue
 pub mod Wanted
 pub mod Keys
 pub mod Pointer
+pub mod FlagRows
+pub mod Sources
+pub mod Arrays

@@ -1,17 +1,20 @@
 //! The elements of a field: their usages, and their values in a report.
-ghost use Rattle.std.specs.Prelude.{◌≡◌, ◌<◌, ◌≤◌, ◌^◌, false, IfSome, OnSome};
+ghost use Rattle.std.specs.Prelude.{◌≡◌, ◌<◌, ◌≤◌, ◌^◌, true, false, [], IfSome, OnSome};
 ghost use Rattle.std.specs.List.{list_any};
-ghost use Rattle.hid_report.specs.Elements.{element_usage, is_rollover, is_button, takes, usages_of, value_of, counted, down_usage, down_in};
+ghost use Rattle.hid_report.specs.Elements.{element_usage, is_rollover, is_button, takes, usages_of, counted, down_usage, down_in};
 ghost use Rattle.hid_report.specs.Wanted.{is_wanted, is_one, is_usable};
 ghost use Rattle.hid_report.specs.Keys.{press_all};
-ghost use Rattle.hid_report.specs.Pointer.{is_usage, find_element, find_for, IsSmall};
+ghost use Rattle.hid_report.specs.Pointer.{is_usage, find_element, find_for};
+ghost use Rattle.hid_report.specs.Sources.{source_of};
 
+use crate::bit_place::BitPlace;
+use crate::bit_size::BitSize;
 use crate::field::Field;
-use crate::globals::signed;
 use crate::number::number_at;
 use crate::page::{
     add_key, is_axis_usage, is_button_usage, is_motion_usage, is_passed_key, is_rollover_usage,
 };
+use crate::source::Source;
 use crate::usage::{lists_key, nth_usage, usage_of};
 use psd_base::KeySet;
 
@@ -27,32 +30,28 @@ pub enum Wanted {
 }
 
 impl Field {
-    /// The value of element `j` in a report, unless it is out of the logical bounds.
-    #[tactic(auto, unfolding(crate::specs::Elements::counted))]
-    pub fn counted(&self, numbered: bool, report: &[u8], j: u32) -> Option<i64>
-        ensures value { result ≡ counted self.now numbered report.now j }
-        ensures small { self.now.size ≤ 16 → IfSome result (λ value. IsSmall value) }
+    /// What element `j` is read from.
+    #[inline(always)]
+    pub fn source(&self, numbered: bool, j: u32) -> Source
+        ensures { result ≡ source_of numbered self.now j }
     {
         let first_bit = if numbered { 8 } else { 0 };
         let place = first_bit + self.place as u64 + j as u64 * self.size.bits() as u64;
-        let value = self.value(number_at(report, place, self.size));
-        if self.minimum <= value && value <= self.maximum {
-            Some(value)
-        } else {
-            None
+        Source {
+            place: BitPlace::new(place),
+            size: self.size,
+            minimum: self.minimum,
+            maximum: self.maximum,
         }
     }
 
-    fn value(&self, raw: u64) -> i64
-        requires { raw < 2 ^ 32 }
-        ensures value { result ≡ value_of self.now raw }
-        ensures small { self.now.size ≤ 16 → raw < 2 ^ self.now.size → IsSmall result }
+    /// The value of element `j` in a report, unless it is out of the logical bounds.
+    #[tactic(auto, unfolding(crate::specs::Elements::counted, crate::specs::Sources::counted_by))]
+    #[inline(always)]
+    fn counted(&self, numbered: bool, report: &[u8], j: u32) -> Option<i64>
+        ensures { result ≡ counted self.now numbered report.now j }
     {
-        if self.minimum < 0 {
-            signed((1 << self.size.bits() as u64) / 2, raw)
-        } else {
-            raw as i64
-        }
+        self.source(numbered, j).counted(report)
     }
 
     /// The usage that element `j` of a report says is down.
@@ -157,27 +156,22 @@ impl Field {
         }
     }
 
-    fn rolls_over_at(&self, numbered: bool, report: &[u8], j: u32) -> bool
-        ensures { result ≡ is_one is_rollover (down_usage self.now numbered report.now j) }
+    /// Whether it is seen at once that no element is down in a report: those of a variable field of at most
+    /// 32 bits, which are all 0.
+    #[tactic(auto, using(crate::proofs::BlankLaws::blank_fields))]
+    fn is_blank(&self, numbered: bool, report: &[u8]) -> bool
+        ensures { result ≡ true → down_in self.now numbered report.now ≡ [] }
     {
-        match self.down_usage(numbered, report, j) {
-            None => false,
-            Some(usage) => is_rollover_usage(usage),
+        let bits = self.count as u64 * self.size.bits() as u64;
+        if !self.variable || bits > 32 {
+            return false;
         }
-    }
-
-    /// Whether some element of a report names one of the usages by which a keyboard says that it can't tell
-    /// its keys.
-    #[tactic(auto, using(crate::proofs::ElementLaws::element_steps))]
-    pub fn rolls_over(&self, numbered: bool, report: &[u8]) -> bool
-        ensures { result ≡ list_any is_rollover (down_in self.now numbered report.now) }
-    {
-        for j in 0..self.count {
-            if self.rolls_over_at(numbered, report, j) {
-                return true;
-            }
-        }
-        false
+        let first_bit = if numbered { 8 } else { 0 };
+        number_at(
+            report,
+            BitPlace::new(first_bit + self.place as u64),
+            BitSize::new(bits as u8),
+        ) == 0
     }
 
     /// Puts the keys that are down in a report into a set.
@@ -185,12 +179,51 @@ impl Field {
     pub fn press(&self, numbered: bool, report: &[u8], keys: &mut KeySet)
         ensures { keys.new ≡ press_all keys.old (down_in self.now numbered report.now) }
     {
+        if self.is_blank(numbered, report) {
+            return;
+        }
         for j in 0..self.count {
             match self.down_usage(numbered, report, j) {
                 None => {}
                 Some(usage) => add_key(keys, usage),
             }
         }
+    }
+
+    /// Puts the keys that are down in a report into a set, unless an element of this array field names one of
+    /// the usages by which a keyboard says that it can't tell its keys: whether one does.
+    pub fn press_named(&self, numbered: bool, report: &[u8], keys: &mut KeySet) -> bool
+        requires { self.now.variable ≡ false }
+        ensures rollover { result ≡ list_any is_rollover (down_in self.now numbered report.now) }
+        ensures keys { result ≡ false → keys.new ≡ press_all keys.old (down_in self.now numbered report.now) }
+    {
+        let first_bit = if numbered { 8 } else { 0 };
+        let place = first_bit + self.place as usize;
+        let start = place / 8;
+        if self.size.bits() == 8 && place % 8 == 0 && start + self.count as usize <= report.len() {
+            return self.press_bytes(numbered, report, start, keys);
+        }
+        self.press_elements(numbered, report, keys)
+    }
+
+    /// The same, element by element.
+    #[tactic(auto, using(crate::proofs::ElementLaws::element_steps))]
+    fn press_elements(&self, numbered: bool, report: &[u8], keys: &mut KeySet) -> bool
+        ensures rollover { result ≡ list_any is_rollover (down_in self.now numbered report.now) }
+        ensures keys { result ≡ false → keys.new ≡ press_all keys.old (down_in self.now numbered report.now) }
+    {
+        for j in 0..self.count {
+            match self.down_usage(numbered, report, j) {
+                None => {}
+                Some(usage) => {
+                    if is_rollover_usage(usage) {
+                        return true;
+                    }
+                    add_key(keys, usage);
+                }
+            }
+        }
+        false
     }
 
     /// Whether an element of this usage is read as a button, or as a motion.

@@ -1,5 +1,5 @@
 //! Reading key reports.
-ghost use Rattle.std.specs.Prelude.{◌≡◌};
+ghost use Rattle.std.specs.Prelude.{◌≡◌, false, not, Some, None, if◌then◌else◌};
 ghost use Rattle.std.specs.List.{list_any};
 ghost use Rattle.psd_base.specs.KeySet.{no_keys};
 ghost use Rattle.hid_report.specs.Keys.{is_report, press_all, down_for, down_usages, rolls_over_for, keys_of};
@@ -33,50 +33,48 @@ impl Layout {
             Some(form) => form,
             None => return None,
         };
-        if !form.fits(self.is_numbered(), report) || self.rolls_over(form.id, report) {
+        if !form.fits(self.is_numbered(), report) {
             return None;
         }
-        Some(self.pressed(form.id, report))
+        self.pressed(form.id, report)
     }
 
-    fn rolls_over(&self, id: u8, report: &[u8]) -> bool
-        ensures { result ≡ list_any (rolls_over_for id self.now.numbered report.now) self.now.fields }
-    {
-        let numbered = self.is_numbered();
-        for field in self.fields() {
-            if field.rolls_over_for(id, numbered, report) {
-                return true;
-            }
-        }
-        false
-    }
-
+    /// The keys that are down in a report of this ID. None where one of its array elements names a rollover
+    /// usage.
     #[tactic(auto, using(crate::proofs::ReportLaws::key_steps))]
-    fn pressed(&self, id: u8, report: &[u8]) -> KeySet
-        ensures { result ≡ press_all no_keys (down_usages id self.now.numbered report.now self.now.fields) }
+    fn pressed(&self, id: u8, report: &[u8]) -> Option<KeySet>
+        ensures { result
+            ≡ (if not (list_any (rolls_over_for id self.now.numbered report.now) self.now.fields)
+            then Some (press_all no_keys (down_usages id self.now.numbered report.now self.now.fields))
+            else None) }
     {
         let numbered = self.is_numbered();
         let mut keys = KeySet::new();
         for field in self.fields() {
-            field.press_for(id, numbered, report, &mut keys);
+            if field.press_for(id, numbered, report, &mut keys) {
+                return None;
+            }
         }
-        keys
+        Some(keys)
     }
 }
 
 impl Field {
-    fn rolls_over_for(&self, id: u8, numbered: bool, report: &[u8]) -> bool
-        ensures { result ≡ rolls_over_for id numbered report.now self.now }
-    {
-        self.id == id && !self.variable && self.rolls_over(numbered, report)
-    }
-
+    /// Puts the keys that are down in a report of this ID into a set, unless an array element names a
+    /// rollover usage: whether one does.
     #[tactic(auto, using(crate::proofs::ReportLaws::key_steps))]
-    fn press_for(&self, id: u8, numbered: bool, report: &[u8], keys: &mut KeySet)
-        ensures { keys.new ≡ press_all keys.old (down_for id numbered report.now self.now) }
+    fn press_for(&self, id: u8, numbered: bool, report: &[u8], keys: &mut KeySet) -> bool
+        ensures rollover { result ≡ rolls_over_for id numbered report.now self.now }
+        ensures keys { result ≡ false
+            → keys.new ≡ press_all keys.old (down_for id numbered report.now self.now) }
     {
-        if self.id == id {
-            self.press(numbered, report, keys);
+        if self.id != id {
+            return false;
         }
+        if self.variable {
+            self.press(numbered, report, keys);
+            return false;
+        }
+        self.press_named(numbered, report, keys)
     }
 }

@@ -1,14 +1,17 @@
 //! The layout of the reports of one interface.
 ghost use Rattle.std.specs.Prelude.{◌≡◌, List, Option, is_some};
 ghost use Rattle.std.specs.List.{list_any};
+ghost use Rattle.std.specs.Option.{option_map};
 ghost use Rattle.hid_report.specs.declared.item.Item.{Item};
 ghost use Rattle.hid_report.specs.Elements.{is_absolute_field};
 ghost use Rattle.hid_report.specs.LayoutValue.{LayoutValue, reading_of};
+ghost use Rattle.hid_report.specs.Sources.{report_in, form_in, IsFoundIn};
 ghost use Rattle.hid_report.specs.State.{state};
 
 use crate::element::Wanted;
 use crate::field::Field;
 use crate::pass::Pass;
+use crate::pointer_report::{PointerReport, pointer_report};
 use crate::report_form::ReportForm;
 use arrayvec::ArrayVec;
 use std::marker::Model;
@@ -22,7 +25,7 @@ pub struct Layout {
     /// The key report: the one with the first usable key field.
     keys: Option<ReportForm>,
     /// The pointer report: the one with the first usable pointer field.
-    pointer: Option<ReportForm>,
+    pointer: Option<PointerReport>,
 }
 
 impl Model for Layout {
@@ -32,8 +35,10 @@ impl Model for Layout {
       fields = layout.fields.items;
       numbered = layout.numbered;
       keys = layout.keys;
-      pointer = layout.pointer;
+      pointer = form_in layout.pointer;
     } };
+
+    ghost invariant = { λ layout. IsFoundIn layout.numbered layout.fields.items layout.pointer };
 }
 
 impl Layout {
@@ -42,7 +47,8 @@ impl Layout {
         ensures { (past : List Item) → pass ≡ state past → result ≡ reading_of past }
     {
         let keys = pass.form_with(Wanted::Key);
-        let pointer = pass.form_with(Wanted::Pointer);
+        let form = pass.form_with(Wanted::Pointer);
+        let pointer = pointer_report(pass.fields.as_slice(), pass.numbered, form);
         Layout {
             numbered: pass.numbered,
             fields: pass.fields,
@@ -95,9 +101,9 @@ impl Layout {
         self.keys
     }
 
-    pub(crate) fn pointer_form(&self) -> Option<ReportForm>
-        ensures { result ≡ self.now.pointer }
+    pub(crate) fn pointer_report(&self) -> &Option<PointerReport>
+        ensures { result.now ≡ option_map (report_in self.now.numbered self.now.fields) self.now.pointer }
     {
-        self.pointer
+        &self.pointer
     }
 }

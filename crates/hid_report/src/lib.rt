@@ -4,10 +4,13 @@
 //! and pointer reports into a `Sample`. Nothing here takes memory.
 #![tactic(auto)]
 
+mod array;
+mod bit_place;
 mod bit_size;
 mod element;
 mod fault;
 mod field;
+mod flag_row;
 mod globals;
 mod item;
 mod keys;
@@ -16,8 +19,10 @@ mod number;
 mod page;
 mod pass;
 mod pointer;
+mod pointer_report;
 mod read;
 mod report_form;
+mod source;
 mod usage;
 
 pub use fault::{LayoutFault, LayoutWhy};

@@ -16,7 +16,7 @@ use Rattle.emulated_keyboard.specs.KeyboardHistory as history
 use Rattle.emulated_keyboard.specs.KeyboardHistory.{KeyboardEntry, idle_rate}
 use Rattle.emulated_keyboard.specs.declared.keyboard.TheConstants as keyboard_constants
 use Rattle.km_port.specs.Asked.{keys_with, keys_asked}
-use Rattle.km_port.specs.Concerns.{Concern, Own, Wakes, Darkens, Selects, Leaves, Keys, Pointer, Item, item}
+use Rattle.km_port.specs.Concerns.{Concern, Own, Wakes, Darkens, Selects, Leaves, Keys, Pointer, Token, Item, item}
 use Rattle.km_port.specs.Delivery.{begins_span, never_repeats}
 use Rattle.km_port.specs.OnePort.{Parts, parts_of, km_act, key_sides, with_key_effect, with_control_act, with_poll, with_km_act}
 use Rattle.km_port.specs.Polled.{polled_by}
@@ -166,6 +166,7 @@ entered_is (entry ∷ past) = by entry.concern (entered_is past) where
     leaves false is = is
   by (Keys shown) before = ap (λ (k : List KeyboardEntry). history.is_entered k) (shown-keyboard shown (parts_of past).keys) ∙ before
   by (Pointer sample) before = before
+  by (Token news) before = before
 
 pub never_repeats-told : (past : List Item) → never_repeats past ≡ true → host.never_repeats (key_sides past).keyboard ≡ true
 unfolding typed.sides_of
@@ -189,3 +190,4 @@ never_repeats-told (entry ∷ past) holds = by entry.concern (never_repeats-told
   by Leaves before holds = absurd (false≢true holds)
   by (Keys shown) before holds = subst (λ (k : List KeyboardEntry). host.never_repeats k ≡ true) (sym (shown-keyboard shown (parts_of past).keys)) (before holds)
   by (Pointer sample) before holds = before holds
+  by (Token news) before holds = before holds

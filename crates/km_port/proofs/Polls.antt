@@ -18,7 +18,7 @@ use Rattle.emulated_mouse.specs.MouseHistory as mouse
 use Rattle.emulated_mouse.specs.declared.given.Given as pointer_given
 use Rattle.emulated_mouse.specs.declared.given.Given.TheVariants as pointer_case
 use Rattle.emulated_mouse.specs.declared.report.Report.{Report}
-use Rattle.km_port.specs.Concerns.{Concern, Own, Wakes, Darkens, Selects, Leaves, Keys, Pointer, Item, item, is_live}
+use Rattle.km_port.specs.Concerns.{Concern, Own, Wakes, Darkens, Selects, Leaves, Keys, Pointer, Token, Item, item, is_live}
 use Rattle.km_port.specs.OnePort.{parts_of, key_sides, pointer_sides, poll_answer, km_answer, answer_to}
 use Rattle.km_port.specs.Polled.{key_answer, key_report_selected, key_report_apart, pointer_answer, pointer_report_selected, pointer_report_apart}
 use Rattle.km_port.specs.Reading.{Seen, Chosen, Left, Reader, is_selected, effect_of, with_act, with_effect, acknowledged, seen}
@@ -150,3 +150,4 @@ module _ {R : Type 0} (reader : Reader R) where
     by Leaves dark before = none_by_leaving (is_selected past) (seen reader past) (before dark)
     by (Keys shown) dark before = before dark
     by (Pointer sample) dark before = before dark
+    by (Token news) dark before = before dark

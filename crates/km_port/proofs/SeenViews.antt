@@ -10,7 +10,7 @@ use Rattle.psd_base.specs.declared.act.Side.TheVariants.{Km, Ua}
 use Rattle.psd_base.specs.declared.sample.Sample.{Sample}
 use Rattle.control_pipe.specs.Control.{address_after, is_configured_after, is_halted_after, control_answer, control_effect, is_control_act}
 use Rattle.control_pipe.specs.declared.reaction.Effect.TheVariants as effect
-use Rattle.km_port.specs.Concerns.{Concern, Own, Wakes, Darkens, Selects, Leaves, Keys, Pointer, Item, item, is_live}
+use Rattle.km_port.specs.Concerns.{Concern, Own, Wakes, Darkens, Selects, Leaves, Keys, Pointer, Token, Item, item, is_live}
 use Rattle.km_port.specs.OnePort.{Parts, fresh_parts, parts_of, km_act, with_control_act, with_poll, with_km_act, with_part, poll_answer, km_answer}
 use Rattle.km_port.specs.Reading.{Reader, Seen, Chosen, Left, is_selected, effect_of, with_answer, with_act, with_effect, seen}
 use Rattle.km_port.specs.declared.polled.Polled.{Polled}
@@ -97,3 +97,4 @@ module _ {R : Type 0} (reader : Reader R) (Holds : Bool → List (Seen R) → Pa
       by Leaves live before = kept.leaves (parts_of past) (is_selected past) (seen reader past) entry.tick (before live)
       by (Keys shown) live before = kept.keys (parts_of past) (is_selected past) (seen reader past) entry.tick shown (before live)
       by (Pointer sample) live before = kept.pointer (parts_of past) (is_selected past) (seen reader past) entry.tick sample (before live)
+      by (Token news) live before = before live

@@ -10,3 +10,4 @@ pub mod PortStands
 pub mod Reading
 pub mod Reports
 pub mod Told
+pub mod TokenConnector

@@ -10,13 +10,15 @@ use Rattle.psd_base.specs.declared.line.Line.{Line}
 use Rattle.control_pipe.specs.Control.{ControlAct, is_control_act, moment_of, control_answer, control_effect, transfer_completed}
 use Rattle.control_pipe.specs.declared.reaction.Effect.{Effect}
 use Rattle.control_pipe.specs.declared.reaction.Effect.TheVariants as effect
+use Rattle.auth_router.specs.Bridge.{bridge_answer}
 use Rattle.emulated_keyboard.specs.Delivery as typed
 use Rattle.emulated_mouse.specs.Delivery as moved
 use Rattle.km_port.specs.Asked.{keys_asked, pointer_asked}
-use Rattle.km_port.specs.Concerns.{Concern, Own, Wakes, Darkens, Selects, Leaves, Keys, Pointer, Item, item, is_live}
+use Rattle.km_port.specs.Concerns.{Concern, Own, Wakes, Darkens, Selects, Leaves, Keys, Pointer, Token, Item, item, is_live}
 use Rattle.km_port.specs.Descriptors.{km_descriptor}
 use Rattle.km_port.specs.KmFunction.{class_answer_after, takes_class_request}
 use Rattle.km_port.specs.Polled.{polled_by, key_answer, pointer_answer}
+use Rattle.km_port.specs.TokenConnector.{bridge_past}
 use Rattle.km_port.specs.declared.polled.Polled.{Polled}
 use Rattle.km_port.specs.declared.polled.Polled.TheVariants.{Nothing, Halted, Keyboard, Mouse}
 
@@ -76,6 +78,7 @@ with_part tick Selects parts = record parts { keys = typed.Selected tick ∷ par
 with_part tick Leaves parts = record parts { keys = typed.Left ∷ parts.keys; pointer = moved.Left ∷ parts.pointer }
 with_part tick (Keys keys) parts = record parts { keys = typed.Showed keys ∷ parts.keys }
 with_part tick (Pointer sample) parts = record parts { pointer = moved.Showed sample ∷ parts.pointer }
+with_part tick (Token news) parts = parts
 
 abbrev pub parts_of : List Item → Parts
 parts_of [] = fresh_parts
@@ -99,10 +102,10 @@ abbrev pub km_answer : ℕ → Act → Parts → Answer
 km_answer tick act parts =
     if is_control_act act then control_answer parts.control act else poll_answer tick (polled_by act parts.control) parts
 
--- what an act at a connector is answered after a view. There is no token, so its connector is silent.
+-- what an act at a connector is answered after a view
 abbrev pub live_answer : List Item → ℕ → Side → Act → Answer
 live_answer past tick Km act = km_answer tick act (parts_of past)
-live_answer past tick Ua act = answer.Silent
+live_answer past tick Ua act = bridge_answer (bridge_past past) act
 
 abbrev pub answer_to : List Item → ℕ → Side → Act → Answer
 answer_to past tick side act = if is_live past then live_answer past tick side act else answer.Silent

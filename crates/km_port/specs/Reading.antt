@@ -12,7 +12,7 @@ use Rattle.control_pipe.specs.declared.reaction.Effect.{Effect}
 use Rattle.control_pipe.specs.declared.reaction.Effect.TheVariants as effect
 use Rattle.emulated_mouse.specs.Report.{released}
 use Rattle.emulated_mouse.specs.declared.report.Report.{Report}
-use Rattle.km_port.specs.Concerns.{Concern, Own, Wakes, Darkens, Selects, Leaves, Keys, Pointer, Item}
+use Rattle.km_port.specs.Concerns.{Concern, Own, Wakes, Darkens, Selects, Leaves, Keys, Pointer, Token, Item}
 use Rattle.km_port.specs.OnePort.{parts_of, km_act, answer_to}
 use Rattle.km_port.specs.Reports.{keys_in, report_in}
 
@@ -90,6 +90,7 @@ with_concern reader tick Selects past seen = if is_selected past then seen else 
 with_concern reader tick Leaves past seen = if is_selected past then Left ∷ seen else seen
 with_concern reader tick (Keys keys) past seen = seen
 with_concern reader tick (Pointer sample) past seen = seen
+with_concern reader tick (Token news) past seen = seen
 
 -- what its reader sees of an endpoint since the port woke or went dark
 abbrev pub seen : {R : Type 0} → Reader R → List Item → List (Seen R)

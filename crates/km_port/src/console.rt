@@ -2,13 +2,13 @@
 ghost use Rattle.std.specs.Prelude.{◌≡◌, ◌+◌, ◌<◌, ◌≤ℤ◌, negsuc, ℕ, List, ◌∷◌, IfOk};
 ghost use Rattle.psd_base.specs.declared.sample.Sample.{Sample};
 ghost use Rattle.km_port.specs.Concerns.{Item, item, Selects, Keys, Pointer};
-ghost use Rattle.input_latch.specs.KeyHistory.{KeyEntry};
+ghost use Rattle.input_latch.specs.KeyHistory.{KeyEntry, counts_of as key_counts};
 ghost use Rattle.input_latch.specs.KeyHistory as keys;
 ghost use Rattle.input_latch.specs.KeyLatchStands.{KeyLatchStands};
-ghost use Rattle.input_latch.specs.PointerHistory.{PointerEntry};
+ghost use Rattle.input_latch.specs.PointerHistory.{PointerEntry, counts_of as pointer_counts};
 ghost use Rattle.input_latch.specs.PointerHistory as pointer;
 ghost use Rattle.input_latch.specs.PointerLatchStands.{PointerLatchStands};
-ghost use Rattle.km_port.specs.OnePort.{parts_of};
+ghost use Rattle.km_port.specs.OnePort.{parts_of, key_sides, pointer_sides};
 ghost use Rattle.km_port.specs.ConsoleStands.{IsApart, OwnedStands, VacantStands, keys_flushed, pointer_flushed};
 
 use control_pipe::reaction::Effect;
@@ -147,17 +147,21 @@ impl Console<Owned> {
         &self.state.pointer
     }
 
-    /// Takes the keys that the keyboard shows. Their changes are offered to the key latch (`KeyLatch::snapshot`).
+    /// Takes the keys that the keyboard shows. Their changes are offered to the key latch (`KeyLatch::snapshot`). Answers
+    /// how many it took and refused.
     pub fn keys(&mut self, keys: &KeySet) -> Offered
         ensures port { self.new.state.port ≡ self.old.state.port }
         ensures gives { self.new.gives ≡ self.old.gives }
         ensures stands { (tick : ℕ) (past : List Item) → OwnedStands self.old past
             → OwnedStands self.new (item tick (Keys keys.now) ∷ past) }
+        ensures counts { (past : List Item) → OwnedStands self.old past
+            → result ≡ key_counts keys.now (key_sides past).latch }
     {
         self.state.keys.snapshot(keys)
     }
 
     /// Takes what a report of the mouse says. Its changes are offered to the pointer latch (`PointerLatch::sample`).
+    /// Answers how many it took and refused.
     pub fn pointer(&mut self, sample: &Sample) -> Offered
         requires buttons { sample.now.buttons < 32 }
         requires x { negsuc 2147483646 ≤ℤ sample.now.x }
@@ -167,6 +171,8 @@ impl Console<Owned> {
         ensures gives { self.new.gives ≡ self.old.gives }
         ensures stands { (tick : ℕ) (past : List Item) → OwnedStands self.old past
             → OwnedStands self.new (item tick (Pointer sample.now) ∷ past) }
+        ensures counts { (past : List Item) → OwnedStands self.old past
+            → result ≡ pointer_counts sample.now (pointer_sides past).latch }
     {
         self.state.pointer.sample(sample)
     }

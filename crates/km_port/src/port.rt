@@ -131,6 +131,7 @@ impl Port<Live> {
     }
 
     /// Answers an act at the keyboard and mouse of a port that isn't selected.
+    #[inline(always)]
     pub fn km_apart(&mut self, tick: Tick, act: &Act, answer: &mut Answer)
         requires { IsEntered false self.old.state.pipe.function }
         ensures id { self.new.id ≡ self.old.id }
@@ -160,6 +161,7 @@ fn is_at_control_endpoint(act: &Act) -> bool
 }
 
 /// Answers an act at the control endpoint, and tells the keyboard and the mouse what it completed. Gives that.
+#[inline(never)]
 fn control(pipe: &mut Pipe<KmFunction>, tick: Tick, act: &Act, answer: &mut Answer) -> Effect
     requires { IsTrue (is_control_act act.now) }
     ensures entered { (entered : Bool) → IsEntered entered pipe.old.function → IsEntered entered pipe.new.function }
@@ -195,7 +197,9 @@ fn control_owned(
     console.flush_at(effect);
 }
 
-/// Answers an act at another endpoint of the port that has the console.
+/// Answers an act at another endpoint of the port that has the console. It is a call of its own, and so are those beside
+/// it: an act pays for the room of the one that it needs.
+#[inline(never)]
 fn poll_owned(
     pipe: &mut Pipe<KmFunction>,
     tick: Tick,
@@ -229,6 +233,7 @@ fn poll_owned(
 }
 
 /// Answers an act at another endpoint of a port that isn't selected.
+#[inline(never)]
 fn poll_apart(pipe: &mut Pipe<KmFunction>, tick: Tick, act: &Act, answer: &mut Answer)
     requires { IsEntered false pipe.old.function }
     ensures entered { IsEntered false pipe.new.function }

@@ -4,6 +4,8 @@ use Rattle.psd_base.specs.Desk.{IsAppendedPart, OnlyReads, OnlyWrites, Told}
 use Rattle.psd_base.specs.History.{onto}
 use Rattle.km_port.proofs.DeliveryLaw.{delivery-all}
 use Rattle.switch_core.specs.View.{view}
+use Rattle.switch_core.proofs.Stamping.{life_is_one_ports, lives_are_apart}
+use Rattle.kvm_program.specs.Owned.{Owns}
 use Rattle.psd_base.specs.declared.event.TheConstants.{EVENTS_MAX}
 use Rattle.psd_base.specs.declared.outlet.Input.{Input}
 use Rattle.psd_base.specs.declared.outlet.Input.TheVariants as input
@@ -66,6 +68,10 @@ NothingLeft-same before after same left = record {
   script = subst (λ (rest : Option (List ℕ)). IfSome rest (λ bytes. bytes ≡ [])) (sym same.1) left.script;
 }
 
+-- the token's ownership holds of whatever events
+owns : (rules : RuleSet) (events : List Seen) → Owns rules events
+owns rules events = record { apart = lives_are_apart rules (onto events []); one_port = life_is_one_ports rules (onto events []) }
+
 -- serving stopped
 pub Serves-stopped : (stop : Stop) (run : Run) (before after : Told)
     → ((to : Outlet) → WroteAtStop stop (text_of run.rules to) run.schedule.events to before after)
@@ -74,6 +80,7 @@ pub Serves-stopped : (stop : Stop) (run : Run) (before after : Told)
 Serves-stopped stop run before after written above same = record {
   ports = λ port. written (outlet.Port port);
   delivered = λ port served left is. delivery-all (view run.rules port (onto served []));
+  owned = owns run.rules run.schedule.events;
   above = above;
   console = written outlet.Console;
   log = written outlet.Log;
@@ -92,6 +99,7 @@ pub Serves-unreported : (run : Run) (before mid after : Told)
 Serves-unreported run before mid after written above unreported only part = record {
   ports = λ port. Grew-whole _ _ _ (rw (only.outlets (outlet.Port port) (λ e. absurd (cc))) (written (outlet.Port port)));
   delivered = λ port served left is. delivery-all (view run.rules port (onto served []));
+  owned = owns run.rules run.schedule.events;
   above = λ port over. only.outlets (outlet.Port port) (λ e. absurd (cc)) ∙ above port over;
   console = Grew-whole _ _ _ (rw (only.outlets outlet.Console (λ e. absurd (cc))) (written outlet.Console));
   log = Grew-whole _ _ _ (rw (only.outlets outlet.Log (λ e. absurd (cc))) (written outlet.Log));
@@ -111,6 +119,7 @@ pub Serves-all : (run : Run) (before mid after : Told) (summary : Summary)
 Serves-all run before mid after summary written above unreported only nothing_left whole is report = record {
   ports = λ port. rw (only.outlets (outlet.Port port) (λ e. absurd (cc))) (written (outlet.Port port));
   delivered = λ port served left is. delivery-all (view run.rules port (onto served []));
+  owned = owns run.rules run.schedule.events;
   above = λ port over. only.outlets (outlet.Port port) (λ e. absurd (cc)) ∙ above port over;
   console = rw (only.outlets outlet.Console (λ e. absurd (cc))) (written outlet.Console);
   log = rw (only.outlets outlet.Log (λ e. absurd (cc))) (written outlet.Log);
@@ -164,6 +173,7 @@ pub Serves-between : (result : Result Summary Stop) (run : Run) (before mid mid_
 Serves-between result run before mid mid_after after same same_after sources sources_after serves = record {
   ports = λ port. text result (transcript_of run.rules port) (outlet.Port port) (λ e. absurd (cc)) (serves.ports port);
   delivered = serves.delivered;
+  owned = serves.owned;
   above = λ port over. same_after (outlet.Port port) (λ e. absurd (cc)) ∙ (serves.above port over ∙ same (outlet.Port port));
   console = text result (console_of run.rules) outlet.Console (λ e. absurd (cc)) serves.console;
   log = text result (log_of run.rules) outlet.Log (λ e. absurd (cc)) serves.log;
@@ -251,6 +261,8 @@ Replays-refused stop before after because few only = record {
     outlets = λ to apart. same to;
     read_counts = only.read_counts;
     write_counts = only.write_counts;
+    other_reads = λ which apart. absurd (apart tt);
+    other_writes = λ to apart. only.other_writes to (λ e. e);
   };
 } where
   same : (to : Outlet) → after.sent to ≡ before.sent to
@@ -316,6 +328,8 @@ Replays-run rules result before mid after read few taken serves because only = r
     outlets = λ to apart. only.outlets to (λ is. apart (inl is)) ∙ unwritten to;
     read_counts = λ which. omega (arith, read.read_counts which, only.read_counts which);
     write_counts = λ to. omega (arith, read.write_counts to, only.write_counts to);
+    other_reads = λ which apart. absurd (apart tt);
+    other_writes = λ to apart. only.other_writes to (λ is. apart (inl is)) ∙ read.other_writes to (λ e. e);
   };
 } where
   unwritten : (to : Outlet) → mid.sent to ≡ before.sent to
@@ -389,6 +403,8 @@ Replays-told result before mid after replays only = record {
     outlets = λ to apart. only.outlets to (λ is. apart (inr is)) ∙ replays.only.outlets to apart;
     read_counts = λ which. omega (arith, replays.only.read_counts which, only.read_counts which);
     write_counts = λ to. omega (arith, replays.only.write_counts to, only.write_counts to);
+    other_reads = λ which apart. absurd (apart tt);
+    other_writes = λ to apart. only.other_writes to (λ is. apart (inr is)) ∙ replays.only.other_writes to apart;
   };
 } where
   by_result : (result : Result Summary Stop) → IfErr result (λ stop. RunStops stop (RulesAreFaulty before) (IsUnread before mid) (schedule_told EVENTS_MAX before) before mid)
@@ -410,6 +426,8 @@ Checks-told result before mid after checks only = record {
     outlets = λ to apart. only.outlets to (λ is. apart (inr is)) ∙ checks.only.outlets to apart;
     read_counts = λ which. omega (arith, checks.only.read_counts which, only.read_counts which);
     write_counts = λ to. omega (arith, checks.only.write_counts to, only.write_counts to);
+    other_reads = λ which apart. only.other_reads which (λ e. e) ∙ checks.only.other_reads which apart;
+    other_writes = λ to apart. only.other_writes to (λ is. apart (inr is)) ∙ checks.only.other_writes to apart;
   };
 } where
   by_stop : (stop : Stop) → CheckStops before mid stop → CheckStops before after stop

@@ -6,12 +6,12 @@ use Rattle.psd_base.specs.declared.console.Order.{Order}
 use Rattle.psd_base.specs.Event.{Happening, Seen}
 use Rattle.psd_base.specs.History.{onto}
 use Rattle.peripheral_filter.specs.declared.rule.RuleSet.{RuleSet}
-use Rattle.switch_core.specs.Independence.{is_act, is_act_elsewhere, without}
+use Rattle.switch_core.specs.Independence.{but_jobs, is_act, is_act_elsewhere, without}
 use Rattle.switch_core.specs.Notes.{notes_at}
 use Rattle.switch_core.specs.Orders.{orders_at}
 use Rattle.switch_core.specs.View.{view}
 use Rattle.switch_core.proofs.Independence.{console_ignores_acts, same_view_same_lines, view_ignores_others}
-use Rattle.kvm_program.specs.Console.{console_after, orders_text}
+use Rattle.kvm_program.specs.Console.{orders_text, power_and_asks_after}
 use Rattle.kvm_program.specs.Log.{log_after, notes_text}
 use Rattle.kvm_program.specs.OneWay.{ConsoleGetsNoActs, LogGetsNoActs, OthersLeaveTranscript, SameViewSameTranscript}
 use Rattle.kvm_program.specs.Transcript.{lines_text}
@@ -26,19 +26,19 @@ onto-without passes (event ∷ events) past = by_test (passes event.happening) (
   by_test true later = later
   by_test false later = later
 
--- an act adds nothing, and what an event at the front adds doesn't depend on acts
+-- an act adds nothing but a job, and what an event at the front adds doesn't depend on acts
 
-console_without_acts : (rules : RuleSet) (past : List Seen) → console_after rules (without is_act past) ≡ console_after rules past
+console_without_acts : (rules : RuleSet) (past : List Seen) → power_and_asks_after rules (without is_act past) ≡ power_and_asks_after rules past
 console_without_acts rules [] = refl
 console_without_acts rules (event ∷ past) = by_test (is_act event.happening) refl (console_without_acts rules past) where
-  by_test : (test : Bool) → is_act event.happening ≡ test → console_after rules (without is_act past) ≡ console_after rules past
-      → console_after rules (if test then without is_act past else event ∷ without is_act past) ≡ console_after rules (event ∷ past)
+  by_test : (test : Bool) → is_act event.happening ≡ test → power_and_asks_after rules (without is_act past) ≡ power_and_asks_after rules past
+      → power_and_asks_after rules (if test then without is_act past else event ∷ without is_act past) ≡ power_and_asks_after rules (event ∷ past)
   by_test true is before =
-      before ∙ sym (ap (λ (orders : List Order). console_after rules past ++ orders_text event.tick orders) ((console_ignores_acts rules event past).2 is).1
-      ∙ append-nil (console_after rules past))
+      before ∙ sym (ap (λ (orders : List Order). power_and_asks_after rules past ++ orders_text event.tick orders) ((console_ignores_acts rules event past).2 is).1
+      ∙ append-nil (power_and_asks_after rules past))
   by_test false is before =
-      ap (λ (text : List ℕ). text ++ orders_text event.tick (orders_at rules event (without is_act past))) before
-      ∙ ap (λ (orders : List Order). console_after rules past ++ orders_text event.tick orders) (console_ignores_acts rules event past).1
+      ap (λ (text : List ℕ). text ++ orders_text event.tick (but_jobs (orders_at rules event (without is_act past)))) before
+      ∙ ap (λ (orders : List Order). power_and_asks_after rules past ++ orders_text event.tick orders) (console_ignores_acts rules event past).1
 
 log_without_acts : (rules : RuleSet) (past : List Seen) → log_after rules (without is_act past) ≡ log_after rules past
 log_without_acts rules [] = refl
@@ -53,7 +53,7 @@ log_without_acts rules (event ∷ past) = by_test (is_act event.happening) refl 
       ∙ ap (λ (notes : List Note). log_after rules past ++ notes_text event.tick notes) (console_ignores_acts rules event past).0
 
 pub console_gets_no_acts : ConsoleGetsNoActs
-console_gets_no_acts rules events = ap (console_after rules) (onto-without is_act events []) ∙ console_without_acts rules (onto events [])
+console_gets_no_acts rules events = ap (power_and_asks_after rules) (onto-without is_act events []) ∙ console_without_acts rules (onto events [])
 
 pub log_gets_no_acts : LogGetsNoActs
 log_gets_no_acts rules events = ap (log_after rules) (onto-without is_act events []) ∙ log_without_acts rules (onto events [])

@@ -77,4 +77,6 @@ Touches-then reads writes before mid after one two = record {
   outlets = λ to apart. two.outlets to apart ∙ one.outlets to apart;
   read_counts = λ which. omega (arith, one.read_counts which, two.read_counts which);
   write_counts = λ to. omega (arith, one.write_counts to, two.write_counts to);
+  other_reads = λ which apart. two.other_reads which apart ∙ one.other_reads which apart;
+  other_writes = λ to apart. two.other_writes to apart ∙ one.other_writes to apart;
 }

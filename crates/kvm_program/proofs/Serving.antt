@@ -38,6 +38,8 @@ OnlyServes-event before mid after reads writes = record {
   outlets = λ to apart. writes.outlets to apart ∙ reads.outlets to (λ e. e);
   read_counts = λ which. omega (arith, reads.read_counts which, writes.read_counts which);
   write_counts = λ to. omega (arith, reads.write_counts to, writes.write_counts to);
+  other_reads = λ which apart. writes.other_reads which (λ e. e) ∙ reads.other_reads which apart;
+  other_writes = λ to apart. writes.other_writes to apart ∙ reads.other_writes to (λ e. e);
 }
 
 -- an event that comes is the newest of what was served

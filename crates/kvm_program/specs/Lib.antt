@@ -5,6 +5,7 @@ pub mod Delivered
 pub mod Log
 pub mod OneWay
 pub mod Outlets
+pub mod Owned
 pub mod Progress
 pub mod Replay
 pub mod Report

@@ -5,13 +5,14 @@ use Rattle.psd_base.specs.History.{onto}
 use Rattle.peripheral_filter.specs.declared.rule.RuleSet.{RuleSet}
 use Rattle.switch_core.specs.Independence.{is_act, is_act_elsewhere, without}
 use Rattle.switch_core.specs.View.{view}
-use Rattle.kvm_program.specs.Console.{console_of}
+use Rattle.kvm_program.specs.Console.{power_and_asks_of}
 use Rattle.kvm_program.specs.Log.{log_of}
 use Rattle.kvm_program.specs.Transcript.{transcript_of}
 
--- What the keyboard and the mouse are told over a schedule is what they are told over it without all acts of all computers.
+-- What the keyboard, the mouse and the token are told over a schedule, but for the token's jobs, is what they are told over it
+-- without all acts of all computers.
 abbrev pub ConsoleGetsNoActs : Type 0
-ConsoleGetsNoActs = (rules : RuleSet) (events : List Seen) → console_of rules (without is_act events) ≡ console_of rules events
+ConsoleGetsNoActs = (rules : RuleSet) (events : List Seen) → power_and_asks_of rules (without is_act events) ≡ power_and_asks_of rules events
 
 -- What the log says over a schedule is what it says over it without all acts of all computers.
 abbrev pub LogGetsNoActs : Type 0

@@ -1,6 +1,6 @@
 -- What writing does to the outlets.
 use Rattle.std.specs.Prelude.{◌≡◌, ◌≢◌, ◌⊎◌, ℕ, List, ◌++◌, Option, option_map, Result, Ok, Err}
-use Rattle.psd_base.specs.Desk.{IsAppendedPart, IsSource, NoInput, NoOutlet, Told, Touches, WriteFailed}
+use Rattle.psd_base.specs.Desk.{IsAppendedPart, IsSource, NoInput, Told, Touches, WriteFailed}
 use Rattle.psd_base.specs.declared.outlet.Outlet.{Outlet}
 use Rattle.psd_base.specs.declared.outlet.Outlet.TheVariants as outlet
 use Rattle.psd_base.specs.declared.stop.Stop.{Stop}
@@ -46,10 +46,6 @@ IsOfConsole outlet.Faults = ⊥
 abbrev pub AndFaults : (Outlet → Type 0) → Outlet → Type 0
 AndFaults writes to = writes to ⊎ (to ≡ outlet.Faults)
 
--- nothing is read, and nothing grows
-abbrev pub Untouched : Told → Told → Type 0
-Untouched = Touches NoInput NoOutlet
-
 -- nothing is read, and the ports alone are written
 abbrev pub OnlyWritesPorts : Told → Told → Type 0
 OnlyWritesPorts = Touches NoInput IsTranscript
@@ -61,6 +57,11 @@ OnlyWritesConsole = Touches NoInput IsOfConsole
 -- nothing is read, and the ports, the console and the log alone are written
 abbrev pub OnlyWritesTexts : Told → Told → Type 0
 OnlyWritesTexts = Touches NoInput IsText
+
+-- nothing is read, and nothing grows; a write of no bytes to a port, the console or the log may have failed
+pub record Untouched (before after : Told) : Type 0 where
+  pub only : OnlyWritesTexts before after
+  pub same : (outlet : Outlet) → after.sent outlet ≡ before.sent outlet
 
 -- serving reads the capture and the script, and writes to the ports, the console and the log alone
 abbrev pub OnlyServes : Told → Told → Type 0

@@ -17,6 +17,7 @@ use Rattle.capture_reader.specs.Schedule.{Schedule}
 use Rattle.port_transcript.specs.StopLine.{stop_text}
 use Rattle.kvm_program.specs.Console.{console_of}
 use Rattle.kvm_program.specs.Delivered.{Delivers}
+use Rattle.kvm_program.specs.Owned.{Owns}
 use Rattle.kvm_program.specs.Log.{log_of}
 use Rattle.kvm_program.specs.Outlets.{AndFaults, Grew}
 use Rattle.kvm_program.specs.Progress.{NothingLeft, PortsAboveStay, WroteAtStop}
@@ -45,6 +46,8 @@ pub record Serves (result : Result Summary Stop) (run : Run) (before after : Tol
   pub ports : (port : ℕ) → TextWritten result (transcript_of run.rules port) run.schedule.events (outlet.Port port) before after
   -- in each span of its view a port's computer reads what was typed and moved, in order and whole, and its release once it is left
   pub delivered : (port : ℕ) → Delivers run.rules port run.schedule.events
+  -- the token serves one port at a time, and between two its power goes off
+  pub owned : Owns run.rules run.schedule.events
   -- nothing is written to a port that the capture doesn't have
   pub above : PortsAboveStay run.ports before after
   -- the console has what its peripherals are told, all of it or a part in the same way

@@ -10,6 +10,7 @@ ghost use Rattle.switch_core.specs.StandsFor.{port_total};
 use crate::sessions::digit;
 use arrayvec::ArrayVec;
 use peripheral_filter::RuleSet;
+use psd_base::act::Answer;
 use psd_base::console::{CHECKS, Panel, Plug};
 use psd_base::event::{EVENTS_MAX, Event, Tick, What};
 use psd_base::port::PortId;
@@ -218,7 +219,7 @@ fn a_clock_of_a_new_switch_gives_nothing(rt: HostRuntime) -> Result<(), Fail> {
         tick: 0,
         what: What::Clock,
     })?;
-    assert!(rt; station.turn.line.is_none());
+    assert_eq!(rt; station.turn.answer, Answer::Silent);
     assert!(rt; station.turn.orders.is_empty());
     assert!(rt; station.turn.notes.is_empty());
     Ok(())

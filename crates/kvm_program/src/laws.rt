@@ -1,8 +1,10 @@
 //! One way, as laws on what a replay writes: each function's contract is one, and its body is empty.
+ghost use Rattle.kvm_program.specs.Console.{ConsoleIsItsOrders};
 ghost use Rattle.kvm_program.specs.OneWay.{ConsoleGetsNoActs, LogGetsNoActs, OthersLeaveTranscript, SameViewSameTranscript};
 
-/// What the keyboard and the mouse are told over a schedule is what they are told over it without all acts of all
-/// computers: nothing goes from a computer to them.
+/// What the keyboard, the mouse and the token are told over a schedule, but for the token's jobs, is what they are told
+/// over it without all acts of all computers: nothing goes from a computer to them but the jobs of the one to which the
+/// token is routed.
 #[tactic(auto, using(crate::proofs::OneWay::console_gets_no_acts))]
 pub fn console_gets_no_acts()
     ensures { ConsoleGetsNoActs }
@@ -25,4 +27,11 @@ pub fn same_view_same_transcript()
 #[tactic(auto, using(crate::proofs::OneWay::others_leave_transcript))]
 pub fn others_leave_transcript()
     ensures { OthersLeaveTranscript }
+{}
+
+/// What the keyboard, the mouse and the token are told over a schedule is the text of its orders with their ticks, one after
+/// another: what is proved of the orders is so of the console's lines.
+#[tactic(auto, using(crate::proofs::Orders::console_is_its_orders))]
+pub fn console_is_its_orders()
+    ensures { ConsoleIsItsOrders }
 {}

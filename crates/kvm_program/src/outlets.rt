@@ -1,10 +1,12 @@
 //! What is written where.
 ghost use Rattle.std.specs.Prelude.{◌≡◌, ◌≢◌, ℕ, ◌+◌, ◌^◌, ◌<◌, ◌≤◌, ◌==◌, if◌then◌else◌, [], length, IfErr, OnOk, OnErr};
+ghost use Rattle.psd_base.specs.Event.{seen};
 ghost use Rattle.psd_base.specs.Port.{IsPort};
 ghost use Rattle.psd_base.specs.Desk.{OnlyWrites, WriteFailed};
 ghost use Rattle.psd_base.specs.History.{number_of};
 ghost use Rattle.port_transcript.specs.ConsoleLine.{order_text};
 ghost use Rattle.switch_core.specs.Gives.{gives_of};
+ghost use Rattle.switch_core.specs.Lines.{line_with};
 ghost use Rattle.kvm_program.specs.Console.{orders_text};
 ghost use Rattle.kvm_program.specs.Log.{is_leave, is_refusal, notes_text};
 ghost use Rattle.kvm_program.specs.Outlets.{OnlyWritesConsole, OnlyWritesPorts, OnlyWritesTexts, WroteTo, IsTextFault};
@@ -13,11 +15,11 @@ ghost use Rattle.kvm_program.specs.Texts.{turn_text};
 ghost use Rattle.kvm_program.specs.Transcript.{text_at};
 
 use crate::tally::Tally;
-use port_transcript::{PORT_LINE_SIZE, Text, write_console_line, write_log_line, write_port_line};
+use port_transcript::{PORT_LINE_SIZE, Text, write_act_line, write_console_line, write_log_line};
+use psd_base::act::Answer;
 use psd_base::console::{NOTES_MAX, Note, Notes, Order, Orders};
 use psd_base::desk::Desk;
-use psd_base::event::Tick;
-use psd_base::line::Line;
+use psd_base::event::{Event, Tick, What};
 use psd_base::outlet::Outlet;
 use psd_base::port::PortId;
 use psd_base::stop::Stop;
@@ -37,12 +39,12 @@ pub fn send<D: Desk>(desk: &mut D, to: &Outlet, bytes: &[u8]) -> Result<(), Stop
     }
 }
 
-/// Writes what one event gave: the line of a turn to its port's transcript, if there is one, then the orders to the
-/// console, and then the notes to the log. The text is room for them.
+/// Writes what one event gave: its line to its port's transcript, if it has one, then the orders to the console, and then
+/// the notes to the log. The text is room for them.
 #[inline(always)]
 pub fn write_turn<D: Desk>(
     desk: &mut D,
-    tick: Tick,
+    event: &Event,
     turn: &Turn,
     text: &mut Text,
     tally: &mut Tally,
@@ -50,12 +52,13 @@ pub fn write_turn<D: Desk>(
     requires bytes { (port : ℕ) → IsPort port → bytes_at tally.old port + PORT_LINE_SIZE < 2 ^ 64 }
     requires left { tally.old.left + NOTES_MAX < 2 ^ 32 }
     requires refused { tally.old.refused + NOTES_MAX < 2 ^ 32 }
-    ensures wrote { (to : Outlet)
-        → WroteTo to result (D.told desk.old) (D.told desk.new) (turn_text to tick (gives_of turn.now)) }
-    ensures short { (port : ℕ) → length (text_at port turn.now.line) ≤ PORT_LINE_SIZE }
+    ensures wrote { (to : Outlet) → WroteTo to result (D.told desk.old) (D.told desk.new)
+        (turn_text to event.now.tick (gives_of (seen event.now) turn.now)) }
+    ensures short { (port : ℕ)
+        → length (text_at port (line_with (seen event.now) turn.now.answer)) ≤ PORT_LINE_SIZE }
     ensures stop { IfErr result (IsTextFault (D.told desk.old) (D.told desk.new)) }
     ensures counted { OnOk result ((port : ℕ) → IsPort port → bytes_at tally.new port
-        ≡ bytes_at tally.old port + length (text_at port turn.now.line)) }
+        ≡ bytes_at tally.old port + length (text_at port (line_with (seen event.now) turn.now.answer))) }
     ensures left { OnOk result (tally.new.left ≡ tally.old.left + number_of is_leave turn.now.notes.items) }
     ensures refused { OnOk result (tally.new.refused
         ≡ tally.old.refused + number_of is_refusal turn.now.notes.items) }
@@ -63,36 +66,44 @@ pub fn write_turn<D: Desk>(
     ensures few_refused { OnOk result (tally.new.refused ≤ tally.old.refused + NOTES_MAX) }
     ensures only { OnlyWritesTexts (D.told desk.old) (D.told desk.new) }
 {
-    write_line(desk, &turn.line, text, tally)?;
-    write_console(desk, tick, turn, text, tally)
+    write_line(desk, event, &turn.answer, text, tally)?;
+    write_console(desk, event.tick, turn, text, tally)
 }
 
-/// Writes the line of a turn to its port's transcript, if there is one.
+/// Writes the line of an event that was answered so to its port's transcript, if it has one.
 #[inline(always)]
 fn write_line<D: Desk>(
     desk: &mut D,
-    line: &Option<(PortId, Line)>,
+    event: &Event,
+    answer: &Answer,
     text: &mut Text,
     tally: &mut Tally,
 ) -> Result<(), Stop>
     requires { (port : ℕ) → IsPort port → bytes_at tally.old port + PORT_LINE_SIZE < 2 ^ 64 }
-    ensures wrote { (port : ℕ)
-        → WroteTo (Outlet.Port port) result (D.told desk.old) (D.told desk.new) (text_at port line.now) }
-    ensures short { (port : ℕ) → length (text_at port line.now) ≤ PORT_LINE_SIZE }
+    ensures wrote { (port : ℕ) → WroteTo (Outlet.Port port) result (D.told desk.old) (D.told desk.new)
+        (text_at port (line_with (seen event.now) answer.now)) }
+    ensures short { (port : ℕ)
+        → length (text_at port (line_with (seen event.now) answer.now)) ≤ PORT_LINE_SIZE }
     ensures stop { IfErr result (IsTextFault (D.told desk.old) (D.told desk.new)) }
     ensures counted { OnOk result ((port : ℕ) → IsPort port → bytes_at tally.new port
-        ≡ bytes_at tally.old port + length (text_at port line.now)) }
+        ≡ bytes_at tally.old port + length (text_at port (line_with (seen event.now) answer.now))) }
     ensures left { tally.new.left ≡ tally.old.left }
     ensures refused { tally.new.refused ≡ tally.old.refused }
     ensures only { OnlyWritesPorts (D.told desk.old) (D.told desk.new) }
 {
-    match line {
-        None => Ok(()),
-        Some((port, line)) => {
+    match &event.what {
+        What::Port(port, side, act) => {
             text.clear();
-            write_port_line(line, text);
+            write_act_line(event.tick, *side, act, answer, text);
             write_text(desk, *port, text, tally)
         }
+        What::Clock => Ok(()),
+        What::Panel(_) => Ok(()),
+        What::Attach(_) => Ok(()),
+        What::Detach(_) => Ok(()),
+        What::Reply { .. } => Ok(()),
+        What::Report { .. } => Ok(()),
+        What::JobDone { .. } => Ok(()),
     }
 }
 
@@ -218,6 +229,7 @@ fn write_order<D: Desk>(
 }
 
 /// Writes the notes of an event to the log, if there are some.
+#[inline(always)]
 fn write_notes<D: Desk>(
     desk: &mut D,
     tick: Tick,
@@ -242,10 +254,37 @@ fn write_notes<D: Desk>(
     if notes.is_empty() {
         return Ok(());
     }
+    write_all(desk, tick, notes.as_slice(), text, tally)
+}
+
+/// Writes notes to the log, all by one write: the text has room for them. It is a call of its own, since few events have
+/// some.
+#[inline(never)]
+fn write_all<D: Desk>(
+    desk: &mut D,
+    tick: Tick,
+    notes: &[Note],
+    text: &mut Text,
+    tally: &mut Tally,
+) -> Result<(), Stop>
+    requires few { length notes.now ≤ NOTES_MAX }
+    requires left { tally.old.left + NOTES_MAX < 2 ^ 32 }
+    requires refused { tally.old.refused + NOTES_MAX < 2 ^ 32 }
+    ensures wrote { WroteTo Outlet.Log result (D.told desk.old) (D.told desk.new)
+        (notes_text tick notes.now) }
+    ensures stop { IfErr result (λ stop. stop ≡ Stop.WriteFault Outlet.Log) }
+    ensures failed { OnErr result (WriteFailed Outlet.Log (D.told desk.old) (D.told desk.new)) }
+    ensures counted { tally.new.bytes ≡ tally.old.bytes }
+    ensures left { OnOk result (tally.new.left ≡ tally.old.left + number_of is_leave notes.now) }
+    ensures refused { OnOk result (tally.new.refused ≡ tally.old.refused + number_of is_refusal notes.now) }
+    ensures few_left { OnOk result (tally.new.left ≤ tally.old.left + NOTES_MAX) }
+    ensures few_refused { OnOk result (tally.new.refused ≤ tally.old.refused + NOTES_MAX) }
+    ensures only { OnlyWrites Outlet.Log (D.told desk.old) (D.told desk.new) }
+{
     text.clear();
-    append_notes(text, tick, notes.as_slice());
+    append_notes(text, tick, notes);
     send(desk, &Outlet::Log, text.as_slice())?;
-    tally.note(notes.as_slice());
+    tally.note(notes);
     Ok(())
 }
 

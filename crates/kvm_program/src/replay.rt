@@ -89,13 +89,7 @@ impl Server {
         ensures only { OnlyWritesTexts (D.told desk.old) (D.told desk.new) }
     {
         self.switch.step(event, &mut self.turn);
-        write_turn(
-            desk,
-            event.tick,
-            &self.turn,
-            &mut self.text,
-            &mut self.tally,
-        )
+        write_turn(desk, event, &self.turn, &mut self.text, &mut self.tally)
     }
 
     /// Serves the next event of the reader, if there is one.

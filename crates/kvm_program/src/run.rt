@@ -139,11 +139,11 @@ fn obey<D: Desk>(alloc: Global, words: &Words, desk: &mut D) -> Result<Summary, 
 ///
 /// `replay` judges the rules, serves the events of the capture and of the button script in the order of their ticks, and
 /// writes each computer's transcript, what the peripherals at the console are told, and the log. Whatever is replayed, a
-/// computer's transcript is what a switch with one port answers to that computer's own acts, the results of the self-test
-/// and the moments at which it is selected; a replay that stops early writes a part of it, from its front. After a read of
-/// the capture or the script that failed, that part, and those of console and log, are exactly their texts over the shortest
-/// part of the events that holds every whole record, or line with its line feed, among the bytes that were taken of that
-/// input. `check` judges the rules alone.
+/// computer's transcript is what a switch with one port answers to that computer's own acts, the results of the self-test,
+/// the moments at which it is selected, and what is typed and moved while it is; a replay that stops early writes a part of
+/// it, from its front. After a read of the capture or the script that failed, that part, and those of console and log, are
+/// exactly their texts over the shortest part of the events that holds every whole record, or line with its line feed, among
+/// the bytes that were taken of that input. `check` judges the rules alone.
 pub fn kvm<D: Desk>(alloc: Global, words: &Words, desk: &mut D) -> Result<Summary, Stop>
     // What each command promises.
     ensures replay { words.now ≡ words_of Command.Replay

@@ -9,8 +9,10 @@ ghost use Rattle.std.specs.Prelude.{◌≡◌, ◌+◌, ◌≤◌, length, ◌++
 ghost use Rattle.arrayvec.specs.ArrayVec.{array_vec_len};
 ghost use Rattle.port_transcript.specs.PortLine.{act_text, answer_text, line_text, side_text};
 
-use crate::text::{TEXT_SIZE, Text, append, append_byte, append_bytes, append_digits, append_tick};
-use psd_base::{Act, Answer, Line, Side};
+use crate::text::{
+    TEXT_SIZE, Text, append_byte, append_bytes, append_digits, append_tick, append_word,
+};
+use psd_base::{Act, Answer, Line, Side, Tick};
 
 /// The most bytes that a line of a port has, its line feed included.
 pub const PORT_LINE_SIZE: usize = 296;
@@ -24,17 +26,28 @@ const ACT_SIZE: usize = 142;
 /// The most bytes from the arrow to the line feed, where the answer is `PACKET_SIZE` bytes of data.
 const REPLY_SIZE: usize = 140;
 
-/// Appends the line. There is room for the longest, of `PORT_LINE_SIZE` bytes.
+/// Appends the line of an act and its answer. There is room for the longest, of `PORT_LINE_SIZE` bytes. The tick is in
+/// milliseconds.
 #[tactic(auto, unfolding(crate::specs::PortLine::line_text))]
+pub fn write_act_line(tick: Tick, side: Side, act: &Act, answer: &Answer, text: &mut Text)
+    requires { array_vec_len text.old + PORT_LINE_SIZE ≤ TEXT_SIZE }
+    ensures items { text.new.items ≡ text.old.items
+        ++ line_text (record { tick = tick; side = side; act = act.now; answer = answer.now }) }
+    ensures len { array_vec_len text.new ≤ array_vec_len text.old + PORT_LINE_SIZE }
+{
+    append_tick(text, tick);
+    append_word(text, side_between_blanks(side));
+    append_act(text, act);
+    append_reply(text, answer);
+}
+
+/// Appends the line. There is room for the longest, of `PORT_LINE_SIZE` bytes.
 pub fn write_port_line(line: &Line, text: &mut Text)
     requires { array_vec_len text.old + PORT_LINE_SIZE ≤ TEXT_SIZE }
     ensures items { text.new.items ≡ text.old.items ++ line_text line.now }
     ensures len { array_vec_len text.new ≤ array_vec_len text.old + PORT_LINE_SIZE }
 {
-    append_tick(text, line.tick);
-    append(text, side_between_blanks(line.side));
-    append_act(text, &line.act);
-    append_reply(text, &line.answer);
+    write_act_line(line.tick, line.side, &line.act, &line.answer, text);
 }
 
 /// The line in a fresh text.
@@ -49,9 +62,8 @@ pub fn port_line(line: &Line) -> Text
 
 /// The side's name, with a blank on each side.
 #[tactic(auto, unfolding(crate::specs::PortLine::side_text))]
-fn side_between_blanks(side: Side) -> &'static [u8]
+fn side_between_blanks(side: Side) -> &'static [u8; SIDE_SIZE]
     ensures name { result.now ≡ codes " " ++ side_text side ++ codes " " }
-    ensures len { length result.now ≡ SIDE_SIZE }
 {
     match side {
         Side::Km => b" KM ",
@@ -66,11 +78,11 @@ fn append_act(text: &mut Text, act: &Act)
     ensures len { array_vec_len text.new ≤ array_vec_len text.old + ACT_SIZE }
 {
     match act {
-        Act::Reset => append(text, b"RESET"),
+        Act::Reset => append_word(text, b"RESET"),
         Act::Setup { address, setup } => {
-            append(text, b"SETUP ");
+            append_word(text, b"SETUP ");
             append_byte(text, *address);
-            append(text, b" ");
+            append_word(text, b" ");
             append_digits(text, &setup.bytes());
         }
         Act::Out {
@@ -79,11 +91,11 @@ fn append_act(text: &mut Text, act: &Act)
             toggle,
             bytes,
         } => {
-            append(text, b"OUT ");
+            append_word(text, b"OUT ");
             append_byte(text, *address);
-            append(text, b" ");
+            append_word(text, b" ");
             append_byte(text, *endpoint);
-            append(text, if *toggle { b" 1 " } else { b" 0 " });
+            append_word(text, if *toggle { b" 1 " } else { b" 0 " });
             append_bytes(text, bytes);
         }
         Act::In {
@@ -91,11 +103,11 @@ fn append_act(text: &mut Text, act: &Act)
             endpoint,
             acked,
         } => {
-            append(text, b"IN ");
+            append_word(text, b"IN ");
             append_byte(text, *address);
-            append(text, b" ");
+            append_word(text, b" ");
             append_byte(text, *endpoint);
-            append(text, if *acked { b" 1" } else { b" 0" });
+            append_word(text, if *acked { b" 1" } else { b" 0" });
         }
     }
 }
@@ -108,12 +120,12 @@ fn append_reply(text: &mut Text, answer: &Answer)
     ensures len { array_vec_len text.new ≤ array_vec_len text.old + REPLY_SIZE }
 {
     match answer {
-        Answer::Ack => append(text, b" -> ACK\n"),
-        Answer::Nak => append(text, b" -> NAK\n"),
-        Answer::Stall => append(text, b" -> STALL\n"),
-        Answer::Silent => append(text, b" -> SILENT\n"),
+        Answer::Ack => append_word(text, b" -> ACK\n"),
+        Answer::Nak => append_word(text, b" -> NAK\n"),
+        Answer::Stall => append_word(text, b" -> STALL\n"),
+        Answer::Silent => append_word(text, b" -> SILENT\n"),
         Answer::Data { toggle, bytes } => {
-            append(
+            append_word(
                 text,
                 if *toggle {
                     b" -> DATA 1 "
@@ -122,7 +134,7 @@ fn append_reply(text: &mut Text, answer: &Answer)
                 },
             );
             append_bytes(text, bytes);
-            append(text, b"\n");
+            append_word(text, b"\n");
         }
     }
 }

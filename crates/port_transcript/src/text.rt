@@ -132,8 +132,16 @@ impl TickDigits {
         ensures { self.new ≡ tick }
     {
         if self.tick != tick {
-            *self = TickDigits::of(tick);
+            self.renew(tick);
         }
+    }
+
+    /// Takes the digits of this tick. It is a call of its own, since its room would be cleared at each line.
+    #[inline(never)]
+    fn renew(&mut self, tick: Tick)
+        ensures { self.new ≡ tick }
+    {
+        *self = TickDigits::of(tick);
     }
 }
 
@@ -156,6 +164,30 @@ pub fn append(text: &mut Text, bytes: &[u8])
 {
     copy_to(&mut text.bytes, text.len, bytes);
     text.len += bytes.len();
+}
+
+/// Writes a word over the bytes from a place on.
+#[inline(always)]
+fn write_word<const SIZE: usize>(into: &mut [u8], start: usize, word: &[u8; SIZE])
+    requires { start + SIZE ≤ length into.old }
+    ensures written { take (start + SIZE) into.new ≡ take start into.old ++ word.now }
+    ensures len { length into.new ≡ length into.old }
+{
+    'bytes: for i in 0..SIZE {
+        into[start + i] = word[i];
+    }
+}
+
+/// Appends a word, whose size is known where it is written: so it costs a store or two, and less than as a slice. There is
+/// room for it.
+#[inline(always)]
+pub(crate) fn append_word<const SIZE: usize>(text: &mut Text, word: &[u8; SIZE])
+    requires { array_vec_len text.old + SIZE ≤ TEXT_SIZE }
+    ensures items { text.new.items ≡ text.old.items ++ word.now }
+    ensures len { array_vec_len text.new ≡ array_vec_len text.old + SIZE }
+{
+    write_word(&mut text.bytes, text.len, word);
+    text.len += SIZE;
 }
 
 /// Appends a number in decimal. There is room for the longest of its type.

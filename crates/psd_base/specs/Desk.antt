@@ -17,12 +17,15 @@ pub record Told : Type 0 where
 abbrev pub silent : Faults → Told
 silent faults = record { left = λ _. None; sent = λ _. None; read_faults = reads_failed faults; write_faults = writes_failed faults }
 
--- Only these inputs may have been read, and only these outlets written. All else stays, and no count falls.
+-- Only these inputs may have been read, and only these outlets written. All else stays, the counts of failures of the other
+-- inputs and outlets too, and no count falls.
 pub record Touches (reads : Input → Type 0) (writes : Outlet → Type 0) (before after : Told) : Type 0 where
   pub inputs : (input : Input) → ¬ reads input → after.left input ≡ before.left input
   pub outlets : (outlet : Outlet) → ¬ writes outlet → after.sent outlet ≡ before.sent outlet
   pub read_counts : (input : Input) → before.read_faults input ≤ after.read_faults input
   pub write_counts : (outlet : Outlet) → before.write_faults outlet ≤ after.write_faults outlet
+  pub other_reads : (input : Input) → ¬ reads input → after.read_faults input ≡ before.read_faults input
+  pub other_writes : (outlet : Outlet) → ¬ writes outlet → after.write_faults outlet ≡ before.write_faults outlet
 
 -- which inputs, and which outlets
 

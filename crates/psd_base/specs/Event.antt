@@ -21,6 +21,8 @@ pub data Doing : Type 0 where
   Replies : Plug → ℕ → ℕ → ℕ → List ℕ → Doing
   -- with the interface and the bytes
   Reports : Plug → ℕ → List ℕ → Doing
+  -- the token has done a job, with the life, the number, the status and the bytes
+  Finishes : ℕ → ℕ → ℕ → List ℕ → Doing
 
 -- what happened: a computer acted at a connector of its port, or something happened at the front
 pub data Happening : Type 0 where
@@ -40,6 +42,7 @@ happening_of (what.Attach plug) = AtFront (Attaches plug)
 happening_of (what.Detach plug) = AtFront (Detaches plug)
 happening_of (what.Reply plug life number status bytes) = AtFront (Replies plug life number status bytes.now)
 happening_of (what.Report plug interface bytes) = AtFront (Reports plug interface bytes.now)
+happening_of (what.JobDone life number status bytes) = AtFront (Finishes life number status bytes.now)
 
 abbrev pub seen : Event → Seen
 seen event = record { tick = event.tick; happening = happening_of event.what }
@@ -58,6 +61,7 @@ DoesWithin ports (Attaches plug) = Unit {0}
 DoesWithin ports (Detaches plug) = Unit {0}
 DoesWithin ports (Replies plug life number status bytes) = Unit {0}
 DoesWithin ports (Reports plug interface bytes) = Unit {0}
+DoesWithin ports (Finishes life number status bytes) = Unit {0}
 
 -- what happens at a switch with so many ports names no port, and no check, but those that are there
 abbrev pub HappensWithin : ℕ → Happening → Type 0

@@ -44,4 +44,11 @@ pub enum What<'a> {
         interface: u8,
         bytes: &'a [u8],
     },
+    /// The token has done the job of this number in this life. The status is that of a reply.
+    JobDone {
+        life: u32,
+        number: u32,
+        status: u8,
+        bytes: &'a [u8],
+    },
 }

@@ -1,5 +1,6 @@
 -- What a clock event makes of the selection.
-use Rattle.std.proofs.Common.{◌≡◌, ◌≢◌, ℕ, Bool, true, false, nat_eq, List, ◌∷◌, Option, Some, None, refl, cond}
+use Rattle.std.proofs.Common.{◌≡◌, ◌≢◌, ℕ, Bool, true, false, nat_eq, List, ◌∷◌, Option, Some, None, refl, sym, subst, cond, inl, inr}
+use Rattle.std.proofs.lemmas.Bool.Decides.{eqb_tells}
 use Rattle.psd_base.specs.History.{newest}
 use Rattle.fail_secure.specs.HealthChange.{is_alive}
 use Rattle.selector.specs.declared.choice.Choice.{Choice}
@@ -13,6 +14,8 @@ use Rattle.switch_core.specs.Peripherals.{shows_nothing}
 use Rattle.switch_core.specs.FrontHealth.{health_at}
 use Rattle.switch_core.specs.Chosen.{moments_in, selected_at, move_at}
 use Rattle.switch_core.specs.Notes.{move_notes, selection_notes, selector_notes}
+use Rattle.switch_core.specs.Token.{late_at, move_moments, selection_moments}
+use Rattle.switch_core.proofs.Handing.{other_number, same_number}
 
 is_somebody : (port : ℕ) (settled : Bool) → cond settled (Selected port) (Target port) ≢ Nobody
 is_somebody port true same = cc
@@ -53,4 +56,31 @@ move_notes-at rules past tick = by_alive (is_alive (health_at past)) refl where
   by_alive false is = rw is refl
   by_alive true is =
       rw is (move_notes-is (choice_after (moments_in rules past)) (choice_after (Ticked tick (shows_nothing rules past) ∷ moments_in rules past))
+      (λ port was. chosen-stays _ _ port was))
+
+-- The same of what the token's plug is told
+
+move_moments-is : (tick : ℕ) (before after : Choice) → ((port : ℕ) → before ≡ Selected port → after ≢ Nobody)
+    → move_moments tick (move_of before after) ≡ selection_moments tick (selected_in before) (selected_in after)
+move_moments-is tick Nobody Nobody stays = refl
+move_moments-is tick Nobody (Target port) stays = refl
+move_moments-is tick Nobody (Selected port) stays = refl
+move_moments-is tick (Target waiting) Nobody stays = refl
+move_moments-is tick (Target waiting) (Target port) stays = refl
+move_moments-is tick (Target waiting) (Selected port) stays = refl
+move_moments-is tick (Selected left) Nobody stays = absurd (stays left refl refl)
+move_moments-is tick (Selected left) (Target port) stays = refl
+move_moments-is tick (Selected left) (Selected port) stays = elim (eqb_tells left port) [
+  | inl same ↦ rw (same.0, subst (λ (n : ℕ). nat_eq port n ≡ true) (sym same.1) (same_number port)) refl
+  | inr apart ↦ rw (apart.0, other_number port left (λ same. apart.1 (sym same))) refl
+]
+
+pub move_moments-at : (rules : RuleSet) (past : List FrontEvent) (tick : ℕ)
+    → move_moments tick (move_at rules tick past) ≡ late_at rules (front_event tick TimePasses) past
+move_moments-at rules past tick = by_alive (is_alive (health_at past)) refl where
+  by_alive : (alive : Bool) → is_alive (health_at past) ≡ alive
+      → move_moments tick (move_at rules tick past) ≡ selection_moments tick (selected_at rules past) (selected_at rules (front_event tick TimePasses ∷ past))
+  by_alive false is = rw is refl
+  by_alive true is =
+      rw is (move_moments-is tick (choice_after (moments_in rules past)) (choice_after (Ticked tick (shows_nothing rules past) ∷ moments_in rules past))
       (λ port was. chosen-stays _ _ port was))

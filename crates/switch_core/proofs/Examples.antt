@@ -19,6 +19,7 @@ use Rattle.switch_core.specs.Lines.{line_at}
 use Rattle.switch_core.specs.Notes.{notes_at}
 use Rattle.switch_core.specs.Peripherals.{peripheral_notes, shows_none}
 use Rattle.km_port.specs.OnePort.{one_port_lines}
+use Rattle.switch_core.specs.Token.{early_token_notes, late_token_notes, token_news}
 use Rattle.switch_core.specs.View.{view}
 
 abbrev no_rules : RuleSet
@@ -44,21 +45,21 @@ unfolding health_after
 silent_in_self_test = refl
 
 answers_when_alive : option_map (λ line. line.1.answer) (line_at no_rules (asked 1 1) tested) ≡ Some answer.Ack
-unfolding health_after ports_down peripheral_notes shows_none
+unfolding health_after ports_down peripheral_notes early_token_notes late_token_notes token_news shows_none
 answers_when_alive = refl
 
 alive_is_noted : notes_at no_rules (moved 0 (panel.Check 4 true)) (moved 0 (panel.Check 3 true) ∷ moved 0 (panel.Check 2 true) ∷ moved 0 (panel.Check 1 true) ∷ [])
     ≡ note.Alive ∷ []
-unfolding health_after ports_down peripheral_notes shows_none
+unfolding health_after ports_down peripheral_notes early_token_notes late_token_notes token_news shows_none
 alive_is_noted = refl
 
 failure_is_noted : notes_at no_rules (moved 9 (panel.Check 2 false)) tested ≡ note.Dark (reason.Check 2) ∷ []
-unfolding health_after ports_down peripheral_notes shows_none
+unfolding health_after ports_down peripheral_notes early_token_notes late_token_notes token_news shows_none
 failure_is_noted = refl
 
 -- the acts of port 2 are none of port 1's
 own_lines_alone : length (one_port_lines (view no_rules 1 (asked 2 2 ∷ asked 1 1 ∷ tested))) ≡ 2
-unfolding health_after ports_down peripheral_notes shows_none
+unfolding health_after ports_down peripheral_notes early_token_notes late_token_notes token_news shows_none
 own_lines_alone = refl
 
 -- port 1 is selected at the clock event at 100
@@ -66,9 +67,9 @@ abbrev pressed : List Seen
 pressed = moved 0 (panel.Button 1 true) ∷ moved 0 (panel.Guard true) ∷ tested
 
 selection_is_noted : notes_at no_rules (record { tick = 100; happening = AtFront TimePasses }) pressed ≡ note.Select 1 ∷ []
-unfolding health_after ports_down peripheral_notes shows_none shown_keys shown_buttons no_keys chosen
+unfolding health_after ports_down peripheral_notes early_token_notes late_token_notes token_news shows_none shown_keys shown_buttons no_keys chosen
 selection_is_noted = refl
 
 not_a_tick_earlier : notes_at no_rules (record { tick = 99; happening = AtFront TimePasses }) pressed ≡ []
-unfolding health_after ports_down peripheral_notes shows_none shown_keys shown_buttons no_keys chosen
+unfolding health_after ports_down peripheral_notes early_token_notes late_token_notes token_news shows_none shown_keys shown_buttons no_keys chosen
 not_a_tick_earlier = refl

@@ -4,7 +4,7 @@ use Rattle.psd_base.specs.History.{newest, or_else}
 use Rattle.psd_base.specs.declared.console.Panel.{Panel}
 use Rattle.psd_base.specs.declared.console.Panel.TheVariants as panel
 use Rattle.psd_base.specs.declared.port.TheConstants.{MAX_PORTS}
-use Rattle.psd_base.specs.Event.{MovesWithin, Doing, TimePasses, PanelMoves, Attaches, Detaches, Replies, Reports}
+use Rattle.psd_base.specs.Event.{MovesWithin, Doing, TimePasses, PanelMoves, Attaches, Detaches, Replies, Reports, Finishes}
 use Rattle.peripheral_filter.specs.declared.rule.RuleSet.{RuleSet}
 use Rattle.fail_secure.specs.declared.health.Health.{Health}
 use Rattle.fail_secure.specs.declared.health.Health.TheVariants.{Testing, Alive, Dark}
@@ -36,6 +36,7 @@ newest-moves rules told clocks_tell_nothing (event ∷ past) = by_doing event.ti
   by_doing tick (Detaches plug) later = later
   by_doing tick (Replies plug life number status bytes) later = later
   by_doing tick (Reports plug interface bytes) later = later
+  by_doing tick (Finishes life number status bytes) later = later
 
 filter-same : (first second : ℕ → Bool) → ((n : ℕ) → first n ≡ second n) → (ns : List ℕ) → filter first ns ≡ filter second ns
 filter-same first second same [] = refl

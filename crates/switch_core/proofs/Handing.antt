@@ -7,7 +7,9 @@ use Rattle.psd_base.specs.declared.act.Side.TheVariants.{Ua}
 use Rattle.km_port.specs.Concerns.{Concern, Own, Selects, Leaves, Item, item}
 use Rattle.km_port.specs.ConsoleStands.{OwnedStands}
 use Rattle.switch_core.specs.Chosen.{is_at}
+use Rattle.switch_core.specs.PortsStand.{PortsStand}
 use Rattle.switch_core.specs.SeatStands.{SeatStands}
+use Rattle.switch_core.specs.declared.ports.Ports.{Ports}
 use Rattle.switch_core.specs.View.{stamped, only_if}
 use Rattle.switch_core.specs.Views.{acted, given_to, left_by, selected_to, shown_to}
 use Rattle.switch_core.specs.SlotStands.{AllStand, SlotStands}
@@ -88,8 +90,23 @@ SlotStands-token : (port : Slot) (tick : ℕ) (act : Act) (past : List Item) →
 SlotStands-token (slot.Dark port) tick act past stands = stands
 SlotStands-token (slot.Live port) tick act past stands = record { live = stands.live; parts = stands.parts }
 
-pub AllStand-token : (tick port : ℕ) (act : Act) (ports : List Slot) (views : ℕ → List Item) → AllStand ports views → AllStand ports (acted tick port Ua act views)
+AllStand-token : (tick port : ℕ) (act : Act) (ports : List Slot) (views : ℕ → List Item) → AllStand ports views → AllStand ports (acted tick port Ua act views)
 AllStand-token tick port act ports views each place other is = by (nat_eq port (place + 1)) where
   by : (own : Bool) → SlotStands other (stamped tick (only_if own (Own Ua act)) (views (place + 1)))
   by true = SlotStands-token other tick act (views (place + 1)) (each place other is)
   by false = each place other is
+
+SeatStands-token : (tick port : ℕ) (act : Act) (at : Seat) (chosen : Option ℕ) (views : ℕ → List Item) → SeatStands at chosen views → SeatStands at chosen (acted tick port Ua act views)
+SeatStands-token tick port act (seat.Vacant console) chosen views stands = stands
+SeatStands-token tick port act (seat.Owned console) chosen views stands = record { owner = stands.owner; stands = by (nat_eq port console.state.port) } where
+  by : (own : Bool) → OwnedStands console (stamped tick (only_if own (Own Ua act)) (views console.state.port))
+  by true = stands.stands
+  by false = stands.stands
+SeatStands-token tick port act seat.Between chosen views stands = absurd stands
+
+pub PortsStand-token : (ports : Ports) (tick port : ℕ) (act : Act) (chosen : Option ℕ) (views : ℕ → List Item) → PortsStand ports chosen views
+    → PortsStand ports chosen (acted tick port Ua act views)
+PortsStand-token ports tick port act chosen views stands = record {
+  slots = AllStand-token tick port act ports.slots.items views stands.slots;
+  seat = SeatStands-token tick port act ports.seat chosen views stands.seat;
+}

@@ -1,15 +1,20 @@
 -- What doesn't depend on what computers do.
-use Rattle.std.proofs.Common.{◌≡◌, ℕ, Bool, true, false, not, ◌==◌, List, [], ◌∷◌, if◌then◌else◌, refl, ap, ◌∙◌}
+use Rattle.std.proofs.Common.{◌≡◌, ℕ, Bool, true, false, not, ◌==◌, List, [], ◌∷◌, if◌then◌else◌, Option, Some, None, option_map, refl, sym, ap, ◌∙◌}
 use Rattle.psd_base.specs.declared.act.Act.{Act}
 use Rattle.psd_base.specs.declared.act.Side.{Side}
+use Rattle.psd_base.specs.declared.act.Side.TheVariants.{Km, Ua}
+use Rattle.psd_base.specs.declared.console.Job.{Job}
 use Rattle.psd_base.specs.Event.{Happening, PortActs, AtFront, Seen}
 use Rattle.peripheral_filter.specs.declared.rule.RuleSet.{RuleSet}
-use Rattle.switch_core.specs.Independence.{is_act, is_act_elsewhere, without, ConsoleIgnoresActs, SameViewSameLines, ViewIgnoresOthers}
+use Rattle.switch_core.specs.Independence.{but_jobs, is_act, is_act_elsewhere, without, ConsoleIgnoresActs, SameViewSameLines, ViewIgnoresOthers}
 use Rattle.switch_core.specs.FrontEvents.{FrontEvent, front_event, front_of}
 use Rattle.switch_core.specs.Notes.{notes_at}
 use Rattle.km_port.specs.Concerns.{Item, Own, item}
 use Rattle.km_port.specs.OnePort.{one_port_lines}
-use Rattle.switch_core.specs.Orders.{orders_at}
+use Rattle.token_plug.specs.Acts.{job_orders}
+use Rattle.km_port.specs.TokenConnector.{job_to}
+use Rattle.switch_core.specs.Orders.{act_orders, in_life, orders_at}
+use Rattle.switch_core.specs.Token.{token_life}
 use Rattle.switch_core.specs.View.{view}
 
 -- the same happened at the front
@@ -44,13 +49,21 @@ console_ignores_acts rules event past = (same_notes event.tick event.happening, 
   same_notes tick (PortActs port side act) = refl
   same_notes tick (AtFront doing) = rw same refl
 
-  same_orders : (tick : ℕ) (happening : Happening) → orders_at rules (record { tick = tick; happening = happening }) (without is_act past) ≡ orders_at rules (record { tick = tick; happening = happening }) past
-  same_orders tick (PortActs port side act) = refl
+  act_jobs : (port : ℕ) (side : Side) (act : Act) (before : List Seen) → but_jobs (act_orders rules port side act before) ≡ []
+  act_jobs port Km act before = refl
+  act_jobs port Ua act before = by (option_map (in_life (token_life rules (front_of before))) (job_to (view rules port before) act)) where
+    by : (job : Option Job) → but_jobs (job_orders job) ≡ []
+    by None = refl
+    by (Some job) = refl
+
+  same_orders : (tick : ℕ) (happening : Happening)
+      → but_jobs (orders_at rules (record { tick = tick; happening = happening }) (without is_act past)) ≡ but_jobs (orders_at rules (record { tick = tick; happening = happening }) past)
+  same_orders tick (PortActs port side act) = act_jobs port side act (without is_act past) ∙ sym (act_jobs port side act past)
   same_orders tick (AtFront doing) = rw same refl
 
   of_act : (tick : ℕ) (happening : Happening) → is_act happening ≡ true
-      → (notes_at rules (record { tick = tick; happening = happening }) past ≡ []) × (orders_at rules (record { tick = tick; happening = happening }) past ≡ [])
-  of_act tick (PortActs port side act) is = (refl, refl)
+      → (notes_at rules (record { tick = tick; happening = happening }) past ≡ []) × (but_jobs (orders_at rules (record { tick = tick; happening = happening }) past) ≡ [])
+  of_act tick (PortActs port side act) is = (refl, act_jobs port side act past)
   of_act tick (AtFront doing) is = absurd (cc)
 
 view_without_others : (rules : RuleSet) (port : ℕ) (past : List Seen) → view rules port (without (is_act_elsewhere port) past) ≡ view rules port past

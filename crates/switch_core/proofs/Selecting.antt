@@ -4,7 +4,7 @@ use Rattle.std.specs.Prelude.{filter}
 use Rattle.std.proofs.lemmas.Bool.{false≢true}
 use Rattle.std.proofs.lemmas.Bool.Decides.{eqb_tells}
 use Rattle.psd_base.specs.History.{newest, or_else, since}
-use Rattle.psd_base.specs.Event.{Doing, TimePasses, PanelMoves, Attaches, Detaches, Replies, Reports, MovesWithin}
+use Rattle.psd_base.specs.Event.{Doing, TimePasses, PanelMoves, Attaches, Detaches, Replies, Reports, Finishes, MovesWithin}
 use Rattle.psd_base.specs.declared.console.Panel.{Panel}
 use Rattle.psd_base.specs.declared.console.Panel.TheVariants as panel
 use Rattle.psd_base.specs.declared.port.TheConstants.{MAX_PORTS}
@@ -73,6 +73,7 @@ nothing_looked rules (event ∷ past) is = by_doing (nothing_looked rules past) 
   by_doing before tick (Detaches plug) is = before is
   by_doing before tick (Replies plug life number status bytes) is = before is
   by_doing before tick (Reports plug interface bytes) is = before is
+  by_doing before tick (Finishes life number status bytes) is = before is
 
 -- A switch that wakes was in its self-test
 
@@ -160,6 +161,7 @@ moments-within rules count (event ∷ past) within = by_doing (moments-within ru
   by_doing before tick (Detaches plug) within = before within.1
   by_doing before tick (Replies plug life number status bytes) within = before within.1
   by_doing before tick (Reports plug interface bytes) within = before within.1
+  by_doing before tick (Finishes life number status bytes) within = before within.1
 
 -- a button that is down was pressed
 down-within : (count port : ℕ) (past : List Moment) → MomentsWithin count past → is_button_down port past ≡ true → port ≤ count

@@ -1,9 +1,8 @@
 -- What events leave of a port's view.
 use Rattle.std.proofs.Common.{◌≡◌, ℕ, Bool, true, false, not, ◌&&◌, nat_eq, List, [], ◌∷◌, ◌++◌, Option, Some, None, cond, refl, ◌∙◌}
-use Rattle.std.proofs.lemmas.Bool.{false≢true}
 use Rattle.psd_base.specs.declared.act.Act.{Act}
 use Rattle.psd_base.specs.declared.act.Side.{Side}
-use Rattle.psd_base.specs.Event.{Seen, Doing, TimePasses, PanelMoves, Attaches, Detaches, Replies, Reports, Happening, PortActs, AtFront}
+use Rattle.psd_base.specs.Event.{Seen, Doing, TimePasses, PanelMoves, Attaches, Detaches, Replies, Reports, Finishes, Happening, PortActs, AtFront}
 use Rattle.peripheral_filter.specs.declared.rule.RuleSet.{RuleSet}
 use Rattle.fail_secure.specs.declared.health.Health.{Health}
 use Rattle.fail_secure.specs.declared.health.Health.TheVariants.{Testing, Alive, Dark}
@@ -25,8 +24,9 @@ use Rattle.switch_core.specs.Peripherals.{moment_at, plug_history}
 use Rattle.switch_core.specs.Shown.{keys_at, keys_concern, pointer_concern, sample_at, shown_at, shown_concerns}
 use Rattle.switch_core.specs.declared.shown.Shown.{Shown}
 use Rattle.switch_core.specs.declared.shown.Shown.TheVariants as shown_as
-use Rattle.switch_core.specs.View.{stamped, only_if, only_at, handed, change_concerns, front_concerns, view}
+use Rattle.switch_core.specs.View.{stamped, only_if, only_at, handed, change_concerns, front_concerns, news_at, view}
 use Rattle.switch_core.specs.SlotStands.{SlotStands}
+use Rattle.switch_core.proofs.Hearing.{is_live-heard, one_port_lines-heard}
 
 -- what two concerns keep, handing keeps
 pub by_handing : (P : List Item → Type 0) (port tick : ℕ) (before after : Option ℕ) (taken given : Concern)
@@ -65,38 +65,25 @@ SlotStands-shown port number tick chosen shown past stands = by (is_at number ch
   by true (shown_as.Keys keys) = SlotStands-Keys port tick keys past stands
   by true (shown_as.Pointer sample) = SlotStands-Pointer port tick sample past stands
 
-abbrev is_shown : Concern → Bool
-is_shown (Keys keys) = true
-is_shown (Pointer sample) = true
-is_shown _ = false
-
--- a property that what is shown keeps
+-- what keys and a sample keep, what the console shows keeps
 by_showing : (P : List Item → Type 0) (port tick : ℕ) (chosen : Option ℕ) (keys : Option (List Bool)) (sample : Option Sample)
-    → ((concern : Concern) (past : List Item) → is_shown concern ≡ true → P past → P (item tick concern ∷ past))
+    → ((shown : List Bool) (past : List Item) → P past → P (item tick (Keys shown) ∷ past))
+    → ((shown : Sample) (past : List Item) → P past → P (item tick (Pointer shown) ∷ past))
     → (past : List Item) → P past → P (stamped tick (only_at port chosen (keys_concern keys ++ pointer_concern sample)) past)
-by_showing P port tick chosen keys sample keeps past holds = by (is_at port chosen) keys sample where
+by_showing P port tick chosen keys sample with_keys with_sample past holds = by (is_at port chosen) keys sample where
   by : (own : Bool) (keys : Option (List Bool)) (sample : Option Sample) → P (stamped tick (cond own (keys_concern keys ++ pointer_concern sample) []) past)
   by false keys sample = holds
   by true None None = holds
-  by true (Some keys) None = keeps (Keys keys) past refl holds
-  by true None (Some sample) = keeps (Pointer sample) past refl holds
-  by true (Some keys) (Some sample) = keeps (Pointer sample) _ refl (keeps (Keys keys) past refl holds)
-
-shown_keeps_live : (concern : Concern) (tick : ℕ) (past : List Item) → is_shown concern ≡ true → is_live (item tick concern ∷ past) ≡ is_live past
-shown_keeps_live (Own side act) tick past is = absurd (false≢true is)
-shown_keeps_live Wakes tick past is = absurd (false≢true is)
-shown_keeps_live Darkens tick past is = absurd (false≢true is)
-shown_keeps_live Selects tick past is = absurd (false≢true is)
-shown_keeps_live Leaves tick past is = absurd (false≢true is)
-shown_keeps_live (Keys keys) tick past is = refl
-shown_keeps_live (Pointer sample) tick past is = refl
+  by true (Some shown) None = with_keys shown past holds
+  by true None (Some shown) = with_sample shown past holds
+  by true (Some first) (Some second) = with_sample second _ (with_keys first past holds)
 
 is_live-shown : (rules : RuleSet) (port : ℕ) (event : FrontEvent) (front : List FrontEvent) (past : List Item)
     → is_live (stamped event.tick (only_at port (selected_at rules front) (shown_at rules event front)) past) ≡ is_live past
 is_live-shown rules port event front past =
     by_showing (λ v. is_live v ≡ is_live past) port event.tick (selected_at rules front)
     (keys_at rules (moment_at Keyboard event front) (plug_history Keyboard front)) (sample_at rules (moment_at Mouse event front) (plug_history Mouse front))
-    (λ concern v is e. shown_keeps_live concern event.tick v is ∙ e) past refl
+    (λ keys v e. e) (λ sample v e. e) past refl
 
 -- the ports are live where the health is alive
 is_live-act : (port tick other : ℕ) (side : Side) (act : Act) (past : List Item)
@@ -128,6 +115,7 @@ is_live-front rules port tick (Attaches plug) front past is = is
 is_live-front rules port tick (Detaches plug) front past is = is_live-shown rules port (front_event tick (Detaches plug)) front past ∙ is
 is_live-front rules port tick (Replies plug life number status bytes) front past is = is
 is_live-front rules port tick (Reports plug interface bytes) front past is = is_live-shown rules port (front_event tick (Reports plug interface bytes)) front past ∙ is
+is_live-front rules port tick (Finishes life number status bytes) front past is = is
 
 pub is_live-view : (rules : RuleSet) (port : ℕ) (past : List Seen) → is_live (view rules port past) ≡ is_alive (health_at (front_of past))
 unfolding health_after
@@ -136,7 +124,9 @@ is_live-view rules port (event ∷ past) = by_happening (is_live-view rules port
   by_happening : is_live (view rules port past) ≡ is_alive (health_at (front_of past)) → (tick : ℕ) (happening : Happening)
       → is_live (view rules port (record { tick = tick; happening = happening } ∷ past)) ≡ is_alive (health_at (front_of (record { tick = tick; happening = happening } ∷ past)))
   by_happening before tick (PortActs other side act) = is_live-act port tick other side act (view rules port past) ∙ before
-  by_happening before tick (AtFront doing) = is_live-front rules port tick doing (front_of past) (view rules port past) before
+  by_happening before tick (AtFront doing) =
+      is_live-heard tick (news_at rules port tick (AtFront doing) (front_of past)) (stamped tick (front_concerns rules port tick doing (front_of past)) (view rules port past))
+      ∙ is_live-front rules port tick doing (front_of past) (view rules port past) before
 
 -- ports wake where the switch was not alive
 pub wakes_from : (before after : Health) → change.Wakes ≡ change_of before after → is_alive before ≡ false
@@ -146,41 +136,49 @@ wakes_from Alive (Testing more) is = absurd (cc)
 wakes_from Alive Alive is = absurd (cc)
 wakes_from Alive Dark is = absurd (cc)
 
--- a change of health adds no line
-one_port_lines-change : (tick : ℕ) (to : HealthChange) (past : List Item) → one_port_lines (stamped tick (change_concerns to) past) ≡ one_port_lines past
-one_port_lines-change tick change.Stays past = refl
-one_port_lines-change tick change.Wakes past = refl
-one_port_lines-change tick change.Darkens past = refl
+-- what each concern keeps of which a port is told by the front, but for the token
+pub record Keeps (P : List Item → Type 0) : Type 0 where
+  pub wakes : (tick : ℕ) (past : List Item) → P past → P (item tick Wakes ∷ past)
+  pub darkens : (tick : ℕ) (past : List Item) → P past → P (item tick Darkens ∷ past)
+  pub selects : (tick : ℕ) (past : List Item) → P past → P (item tick Selects ∷ past)
+  pub leaves : (tick : ℕ) (past : List Item) → P past → P (item tick Leaves ∷ past)
+  pub keys : (tick : ℕ) (shown : List Bool) (past : List Item) → P past → P (item tick (Keys shown) ∷ past)
+  pub pointer : (tick : ℕ) (shown : Sample) (past : List Item) → P past → P (item tick (Pointer shown) ∷ past)
 
-shown_adds_no_line : (concern : Concern) (tick : ℕ) (past : List Item) → is_shown concern ≡ true → one_port_lines (item tick concern ∷ past) ≡ one_port_lines past
-shown_adds_no_line (Own side act) tick past is = absurd (false≢true is)
-shown_adds_no_line Wakes tick past is = absurd (false≢true is)
-shown_adds_no_line Darkens tick past is = absurd (false≢true is)
-shown_adds_no_line Selects tick past is = absurd (false≢true is)
-shown_adds_no_line Leaves tick past is = absurd (false≢true is)
-shown_adds_no_line (Keys keys) tick past is = refl
-shown_adds_no_line (Pointer sample) tick past is = refl
+by_change : (P : List Item → Type 0) → Keeps P → (tick : ℕ) (to : HealthChange) (past : List Item) → P past → P (stamped tick (change_concerns to) past)
+by_change P keeps tick change.Stays past holds = holds
+by_change P keeps tick change.Wakes past holds = keeps.wakes tick past holds
+by_change P keeps tick change.Darkens past holds = keeps.darkens tick past holds
 
-one_port_lines-shown : (rules : RuleSet) (port : ℕ) (event : FrontEvent) (front : List FrontEvent) (past : List Item)
-    → one_port_lines (stamped event.tick (only_at port (selected_at rules front) (shown_at rules event front)) past) ≡ one_port_lines past
-one_port_lines-shown rules port event front past =
-    by_showing (λ v. one_port_lines v ≡ one_port_lines past) port event.tick (selected_at rules front)
+by_shown : (P : List Item → Type 0) → Keeps P → (rules : RuleSet) (port : ℕ) (event : FrontEvent) (front : List FrontEvent) (past : List Item) → P past
+    → P (stamped event.tick (only_at port (selected_at rules front) (shown_at rules event front)) past)
+by_shown P keeps rules port event front past holds =
+    by_showing P port event.tick (selected_at rules front)
     (keys_at rules (moment_at Keyboard event front) (plug_history Keyboard front)) (sample_at rules (moment_at Mouse event front) (plug_history Mouse front))
-    (λ concern v is e. shown_adds_no_line concern event.tick v is ∙ e) past refl
+    (keeps.keys event.tick) (keeps.pointer event.tick) past holds
+
+pub by_front : (P : List Item → Type 0) → Keeps P → (rules : RuleSet) (port tick : ℕ) (doing : Doing) (front : List FrontEvent) (past : List Item) → P past
+    → P (stamped tick (front_concerns rules port tick doing front) past)
+by_front P keeps rules port tick TimePasses front past holds =
+    by_handing P port tick (selected_at rules front) (selected_at rules (front_event tick TimePasses ∷ front)) Leaves Selects (keeps.leaves tick) (keeps.selects tick) past holds
+by_front P keeps rules port tick (PanelMoves move) front past holds =
+    by_change P keeps tick (change_of (health_at front) (health_at (front_event tick (PanelMoves move) ∷ front))) past holds
+by_front P keeps rules port tick (Attaches plug) front past holds = holds
+by_front P keeps rules port tick (Detaches plug) front past holds = by_shown P keeps rules port (front_event tick (Detaches plug)) front past holds
+by_front P keeps rules port tick (Replies plug life number status bytes) front past holds = holds
+by_front P keeps rules port tick (Reports plug interface bytes) front past holds = by_shown P keeps rules port (front_event tick (Reports plug interface bytes)) front past holds
+by_front P keeps rules port tick (Finishes life number status bytes) front past holds = holds
 
 -- what happens at the front adds no line to any port
 one_port_lines-doing : (rules : RuleSet) (port tick : ℕ) (doing : Doing) (front : List FrontEvent) (past : List Item)
     → one_port_lines (stamped tick (front_concerns rules port tick doing front) past) ≡ one_port_lines past
-one_port_lines-doing rules port tick TimePasses front past =
-    by_handing (λ v. one_port_lines v ≡ one_port_lines past) port tick
-    (selected_at rules front) (selected_at rules (front_event tick TimePasses ∷ front)) Leaves Selects (λ v e. e) (λ v e. e) past refl
-one_port_lines-doing rules port tick (PanelMoves move) front past =
-    one_port_lines-change tick (change_of (health_at front) (health_at (front_event tick (PanelMoves move) ∷ front))) past
-one_port_lines-doing rules port tick (Attaches plug) front past = refl
-one_port_lines-doing rules port tick (Detaches plug) front past = one_port_lines-shown rules port (front_event tick (Detaches plug)) front past
-one_port_lines-doing rules port tick (Replies plug life number status bytes) front past = refl
-one_port_lines-doing rules port tick (Reports plug interface bytes) front past = one_port_lines-shown rules port (front_event tick (Reports plug interface bytes)) front past
+one_port_lines-doing rules port tick doing front past =
+    by_front (λ v. one_port_lines v ≡ one_port_lines past)
+    (record { wakes = λ at v e. e; darkens = λ at v e. e; selects = λ at v e. e; leaves = λ at v e. e; keys = λ at shown v e. e; pointer = λ at shown v e. e })
+    rules port tick doing front past refl
 
 pub one_port_lines-front : (rules : RuleSet) (port tick : ℕ) (doing : Doing) (past : List Seen)
     → one_port_lines (view rules port (record { tick = tick; happening = AtFront doing } ∷ past)) ≡ one_port_lines (view rules port past)
-one_port_lines-front rules port tick doing past = one_port_lines-doing rules port tick doing (front_of past) (view rules port past)
+one_port_lines-front rules port tick doing past =
+    one_port_lines-heard tick (news_at rules port tick (AtFront doing) (front_of past)) (stamped tick (front_concerns rules port tick doing (front_of past)) (view rules port past))
+    ∙ one_port_lines-doing rules port tick doing (front_of past) (view rules port past)

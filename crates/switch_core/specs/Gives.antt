@@ -6,7 +6,7 @@ use Rattle.psd_base.specs.declared.line.Line.{Line}
 use Rattle.psd_base.specs.Event.{Seen}
 use Rattle.peripheral_filter.specs.declared.rule.RuleSet.{RuleSet}
 use Rattle.switch_core.specs.declared.turn.Turn.{Turn}
-use Rattle.switch_core.specs.Lines.{line_at}
+use Rattle.switch_core.specs.Lines.{line_at, line_with}
 use Rattle.switch_core.specs.Notes.{notes_at}
 use Rattle.switch_core.specs.Orders.{orders_at}
 
@@ -24,6 +24,6 @@ gives_at rules event past = record {
   notes = notes_at rules event past;
 }
 
--- what a turn holds
-abbrev pub gives_of : Turn → Gives
-gives_of turn = record { line = turn.line; orders = turn.orders.items; notes = turn.notes.items }
+-- what the turn of an event holds
+abbrev pub gives_of : Seen → Turn → Gives
+gives_of event turn = record { line = line_with event turn.answer; orders = turn.orders.items; notes = turn.notes.items }

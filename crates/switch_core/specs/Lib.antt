@@ -1,3 +1,4 @@
+pub mod Bridges
 pub mod Chosen
 pub mod FrontEvents
 pub mod FrontHealth
@@ -7,6 +8,8 @@ pub mod Independence
 pub mod Lines
 pub mod Notes
 pub mod Orders
+pub mod Ownership
+pub mod Stamped
 pub mod PanelsWithin
 pub mod PartsStand
 pub mod Peripherals
@@ -16,6 +19,7 @@ pub mod SeatStands
 pub mod Shown
 pub mod SlotStands
 pub mod StandsFor
+pub mod Token
 pub mod View
 pub mod Views
 pub mod Wired

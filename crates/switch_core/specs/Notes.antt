@@ -17,6 +17,7 @@ use Rattle.switch_core.specs.FrontEvents.{FrontEvent, front_event, front_of}
 use Rattle.switch_core.specs.FrontHealth.{health_at}
 use Rattle.switch_core.specs.Chosen.{selected_at}
 use Rattle.switch_core.specs.Peripherals.{peripheral_notes}
+use Rattle.switch_core.specs.Token.{early_token_notes, late_token_notes}
 
 -- why a move makes the switch dark: a check that failed, an opened case, or a button that was down when the last check passed
 abbrev pub reason_of : Panel → Reason
@@ -45,10 +46,12 @@ selector_notes rules tick (PanelMoves move) front =
     change_notes move (change_of (health_at front) (health_at (front_event tick (PanelMoves move) ∷ front)))
 selector_notes rules tick _ front = []
 
--- what the log says of an event at the front: what the peripherals come to, and then what becomes of the selection
+-- What the log says of an event at the front: what the peripherals come to, then what becomes of the selection, and then to
+-- which port the token is routed by it.
 abbrev pub front_notes : RuleSet → ℕ → Doing → List FrontEvent → List Note
 front_notes rules tick doing front =
-    peripheral_notes rules (front_event tick doing) front ++ selector_notes rules tick doing front
+    (peripheral_notes rules (front_event tick doing) front ++ early_token_notes rules (front_event tick doing) front)
+    ++ (selector_notes rules tick doing front ++ late_token_notes rules (front_event tick doing) front)
 
 -- What the log says of an event after a history. Of what a computer does it says nothing.
 abbrev pub notes_at : RuleSet → Seen → List Seen → List Note

@@ -4,6 +4,7 @@ use Rattle.psd_base.specs.Event.{Seen}
 use Rattle.peripheral_filter.specs.declared.rule.RuleSet.{RuleSet}
 use Rattle.switch_core.specs.declared.front.Front.{Front}
 use Rattle.switch_core.specs.declared.ports.Ports.{Ports}
+use Rattle.switch_core.specs.Bridges.{bridge_after}
 use Rattle.switch_core.specs.Chosen.{selected_at, selections}
 use Rattle.switch_core.specs.FrontEvents.{front_of}
 use Rattle.switch_core.specs.FrontStands.{FrontStands}
@@ -17,5 +18,5 @@ use Rattle.switch_core.specs.SeatStands.{give_count}
 pub record PartsStand (rules : RuleSet) (ports : Ports) (front : Front) (past : List Seen) : Type 0 where
   pub ports_stand : PortsStand ports (selected_at rules (front_of past)) (views_of rules past)
   pub gives : give_count ports.seat ≡ selections rules (front_of past)
-  pub front_stands : FrontStands rules front (front_of past)
+  pub front_stands : FrontStands rules front (front_of past) (bridge_after rules past)
   pub within : PanelsWithin (port_count ports) (front_of past)

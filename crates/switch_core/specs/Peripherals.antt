@@ -4,7 +4,7 @@ use Rattle.psd_base.specs.declared.console.Note.{Note}
 use Rattle.psd_base.specs.declared.console.Order.{Order}
 use Rattle.psd_base.specs.declared.console.Plug.{Plug}
 use Rattle.psd_base.specs.declared.console.Plug.TheVariants.{Keyboard, Mouse, Token}
-use Rattle.psd_base.specs.Event.{Doing, TimePasses, PanelMoves, Attaches, Detaches, Replies, Reports}
+use Rattle.psd_base.specs.Event.{Doing, TimePasses, PanelMoves, Attaches, Detaches, Replies, Reports, Finishes}
 use Rattle.psd_base.specs.KeySet.{has_no_key}
 use Rattle.fail_secure.specs.declared.health_change.HealthChange.{HealthChange}
 use Rattle.fail_secure.specs.declared.health_change.HealthChange.TheVariants as change
@@ -40,6 +40,7 @@ plug_moment own tick (Attaches other) health = if_same_plug own other (Attached 
 plug_moment own tick (Detaches other) health = if_same_plug own other Detached
 plug_moment own tick (Replies other life number status bytes) health = if_same_plug own other (Replied life number tick (reply_of status bytes))
 plug_moment own tick (Reports other interface bytes) health = if_same_plug own other (Reported interface bytes)
+plug_moment own tick (Finishes life number status bytes) health = None
 
 abbrev pub moment_at : Plug → FrontEvent → List FrontEvent → Option Moment
 moment_at own event past = plug_moment own event.tick event.doing (change_of (health_at past) (health_at (event ∷ past)))

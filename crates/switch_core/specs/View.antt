@@ -5,11 +5,12 @@ use Rattle.fail_secure.specs.declared.health_change.HealthChange.{HealthChange}
 use Rattle.fail_secure.specs.declared.health_change.HealthChange.TheVariants as change
 use Rattle.fail_secure.specs.HealthChange.{change_of}
 use Rattle.peripheral_filter.specs.declared.rule.RuleSet.{RuleSet}
-use Rattle.km_port.specs.Concerns.{Concern, Own, Wakes, Darkens, Selects, Leaves, Item, item}
+use Rattle.km_port.specs.Concerns.{Concern, Own, Wakes, Darkens, Selects, Leaves, Token, TokenNews, Item, item}
 use Rattle.switch_core.specs.FrontEvents.{FrontEvent, front_event, front_of}
 use Rattle.switch_core.specs.FrontHealth.{health_at}
 use Rattle.switch_core.specs.Chosen.{selected_at, is_at}
 use Rattle.switch_core.specs.Shown.{shown_at}
+use Rattle.switch_core.specs.Token.{token_news}
 
 -- the concerns of one event, in their order, each with the event's tick
 abbrev pub stamped : ℕ → List Concern → List Item → List Item
@@ -53,8 +54,20 @@ abbrev pub concerns : RuleSet → ℕ → ℕ → Happening → List FrontEvent 
 concerns rules port tick (PortActs other side act) front = only_if (other == port) (Own side act)
 concerns rules port tick (AtFront doing) front = front_concerns rules port tick doing front
 
--- what concerns this port after a history of events
+-- what a port hears of the token, each with the event's tick
+abbrev pub heard : ℕ → List TokenNews → List Item → List Item
+heard tick [] view = view
+heard tick (told ∷ news) view = heard tick news (item tick (Token told) ∷ view)
+
+-- what a port hears of the token at an event
+abbrev pub news_at : RuleSet → ℕ → ℕ → Happening → List FrontEvent → List TokenNews
+news_at rules port tick (PortActs other side act) front = []
+news_at rules port tick (AtFront doing) front = token_news rules port (front_event tick doing) front
+
+-- What concerns this port after a history of events. Of one event the port is told of the token last: that it goes comes after
+-- the port was left or the switch went dark, and that it comes after the port was selected.
 abbrev pub view : RuleSet → ℕ → List Seen → List Item
 view rules port [] = []
 view rules port (event ∷ past) =
-    stamped event.tick (concerns rules port event.tick event.happening (front_of past)) (view rules port past)
+    heard event.tick (news_at rules port event.tick event.happening (front_of past))
+    (stamped event.tick (concerns rules port event.tick event.happening (front_of past)) (view rules port past))

@@ -2,8 +2,8 @@
 use Rattle.std.specs.Prelude.{ℕ, ◌==◌, List, ◌∷◌, Option}
 use Rattle.psd_base.specs.declared.act.Act.{Act}
 use Rattle.psd_base.specs.declared.act.Side.{Side}
-use Rattle.km_port.specs.Concerns.{Concern, Own, Selects, Leaves, Item, item}
-use Rattle.switch_core.specs.View.{stamped, only_if, only_at, handed}
+use Rattle.km_port.specs.Concerns.{Concern, Own, Selects, Leaves, TokenNews, Item, item}
+use Rattle.switch_core.specs.View.{stamped, heard, only_if, only_at, handed}
 use Rattle.switch_core.specs.Chosen.{is_at}
 
 -- the computer of a port acts
@@ -28,3 +28,7 @@ given_to tick after views number = stamped tick (only_if (is_at number after) Se
 -- all ports wake, or go dark
 abbrev pub to_all : ℕ → Concern → (ℕ → List Item) → ℕ → List Item
 to_all tick concern views number = item tick concern ∷ views number
+
+-- each port hears of the token
+abbrev pub heard_by : ℕ → (ℕ → List TokenNews) → (ℕ → List Item) → ℕ → List Item
+heard_by tick news views number = heard tick (news number) (views number)

@@ -1,9 +1,9 @@
-//! The act of a computer: it is answered by its port alone.
+//! The act of a computer at its keyboard and mouse: it is answered by its port alone.
 ghost use Rattle.std.specs.Prelude.{◌≡◌, ℕ, ◌+◌, ◌-◌, ◌<◌, ◌≤◌, ◌==◌, List, ◌∷◌, length, Option};
 ghost use Rattle.psd_base.specs.declared.act.Side.TheVariants.{Km};
 ghost use Rattle.km_port.specs.Concerns.{Item, item, Own};
 ghost use Rattle.km_port.specs.ConsoleStands.{OwnedStands};
-ghost use Rattle.km_port.specs.OnePort.{answer_to, line_of};
+ghost use Rattle.km_port.specs.OnePort.{answer_to};
 ghost use Rattle.switch_core.specs.SeatStands.{SeatStands, give_count};
 ghost use Rattle.switch_core.specs.SlotStands.{AllStand, SlotStands};
 ghost use Rattle.switch_core.specs.Views.{acted};
@@ -12,45 +12,35 @@ ghost use Rattle.switch_core.specs.Wired.{is_seated, IsSlot, IsWired, is_owner};
 use crate::seat::Seat;
 use crate::slot::Slot;
 use km_port::{Console, Owned};
-use psd_base::act::{Act, Answer, Side};
+use psd_base::act::{Act, Answer};
 use psd_base::event::Tick;
-use psd_base::line::Line;
 use psd_base::port::PortId;
 
-/// Answers one act of a port's computer in its line.
+/// Answers an act at a port's keyboard and mouse, in the place that the caller has for the answer.
 pub(crate) fn answer_act(
     slots: &mut [Slot],
     seat: &mut Seat,
     tick: Tick,
     port: PortId,
-    side: Side,
     act: &Act,
-    line: &mut Line,
+    answer: &mut Answer,
 )
     requires place { port ≤ length slots.old }
     requires wired { IsWired slots.old seat.old }
     ensures wired { IsWired slots.new seat.new }
     ensures gives { give_count seat.new ≡ give_count seat.old }
     ensures slots { (chosen : Option ℕ) (views : ℕ → List Item) → AllStand slots.old views
-        → SeatStands seat.old chosen views → AllStand slots.new (acted tick port side act.now views) }
+        → SeatStands seat.old chosen views → AllStand slots.new (acted tick port Km act.now views) }
     ensures seat { (chosen : Option ℕ) (views : ℕ → List Item) → AllStand slots.old views
-        → SeatStands seat.old chosen views → SeatStands seat.new chosen (acted tick port side act.now views) }
-    ensures line { (chosen : Option ℕ) (views : ℕ → List Item) → AllStand slots.old views
-        → SeatStands seat.old chosen views → line.new ≡ line_of (views port) tick side act.now }
+        → SeatStands seat.old chosen views → SeatStands seat.new chosen (acted tick port Km act.now views) }
+    ensures answer { (chosen : Option ℕ) (views : ℕ → List Item) → AllStand slots.old views
+        → SeatStands seat.old chosen views → answer.new ≡ answer_to (views port) tick Km act.now }
 {
-    line.tick = tick;
-    line.side = side;
-    act.copy_to(&mut line.act);
-    match side {
-        Side::Km => {
-            let place = port.number() as usize - 1;
-            answer_km(&mut slots[place], seat, tick, port, act, &mut line.answer);
-        }
-        Side::Ua => line.answer = Answer::Silent,
-    }
+    let place = port.number() as usize - 1;
+    answer_km(&mut slots[place], seat, tick, port, act, answer);
 }
 
-/// Answers an act at a port's keyboard and mouse: with the console where the port has it.
+/// Answers it with the console where the port has it.
 fn answer_km(
     slot: &mut Slot,
     seat: &mut Seat,

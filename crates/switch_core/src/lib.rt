@@ -12,6 +12,7 @@ mod self_test;
 pub mod shown;
 pub mod slot;
 pub mod switch;
+mod token;
 pub mod turn;
 
 pub use switch::Switch;

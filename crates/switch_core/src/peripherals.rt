@@ -71,6 +71,7 @@ impl Peripherals {
             ++ notes_at Mouse rules (Ticked tick) mouse }
         ensures lives { (count : ℕ) → HasLivesWithin count self.old → HasLivesWithin count self.new }
         ensures few { length notes.new.items ≤ 2 }
+        ensures few_orders { length orders.new.items ≤ 2 }
     {
         self.keyboard.clock(tick, orders, notes);
         self.mouse.clock(tick, orders, notes);
@@ -88,6 +89,7 @@ impl Peripherals {
             → orders.new.items ≡ plug_orders Keyboard rules (change_moment tick change) keyboard
             ++ plug_orders Mouse rules (change_moment tick change) mouse }
         ensures lives { (count : ℕ) → HasLivesWithin count self.old → HasLivesWithin (count + 1) self.new }
+        ensures few_orders { length orders.new.items ≤ 4 }
     {
         match change {
             HealthChange::Stays => {}
@@ -116,6 +118,7 @@ impl Peripherals {
             → orders.new.items ≡ plug_orders Keyboard rules (if_same_plug Keyboard plug (Attached tick)) keyboard
             ++ plug_orders Mouse rules (if_same_plug Mouse plug (Attached tick)) mouse }
         ensures lives { (count : ℕ) → HasLivesWithin count self.old → HasLivesWithin (count + 1) self.new }
+        ensures few_orders { length orders.new.items ≤ 2 }
     {
         match plug {
             Plug::Keyboard => self.keyboard.attach(tick, orders),
@@ -139,6 +142,7 @@ impl Peripherals {
             ≡ shown_by rules (if_same_plug Keyboard plug Detached) (if_same_plug Mouse plug Detached) keyboard mouse }
         ensures sample { IsShown result }
         ensures lives { (count : ℕ) → HasLivesWithin count self.old → HasLivesWithin count self.new }
+        ensures few_orders { length orders.new.items ≤ 1 }
     {
         match plug {
             Plug::Keyboard => {
@@ -186,6 +190,8 @@ impl Peripherals {
             → notes.new.items ≡ plug_notes Keyboard rules.now (if_same_plug Keyboard plug moment) keyboard
             ++ plug_notes Mouse rules.now (if_same_plug Mouse plug moment) mouse }
         ensures lives { (count : ℕ) → HasLivesWithin count self.old → HasLivesWithin count self.new }
+        ensures few_orders { length orders.new.items ≤ 1 }
+        ensures quiet { plug ≡ Plug.Token → notes.new.items ≡ [] }
     {
         match plug {
             Plug::Keyboard => self

@@ -1,8 +1,9 @@
 //! The ports of a switch and their console: each port lies in the place of its number, and is told what concerns it alone.
 ghost use Rattle.std.specs.Prelude.{◌≡◌, ◌≢◌, ℕ, ◌+◌, ◌-◌, ◌<◌, ◌≤◌, List, ◌∷◌, length, true, false, IsTrue, None, Some, Option};
+ghost use Rattle.psd_base.specs.declared.act.Side.TheVariants.{Km};
 ghost use Rattle.km_port.specs.Concerns.{Item, item, is_live, Own, Wakes, Darkens, Selects};
 ghost use Rattle.km_port.specs.ConsoleStands.{OwnedStands, VacantStands};
-ghost use Rattle.km_port.specs.OnePort.{line_of};
+ghost use Rattle.km_port.specs.OnePort.{answer_to};
 ghost use Rattle.switch_core.specs.Chosen.{given_after};
 ghost use Rattle.switch_core.specs.SeatStands.{CanHave, SeatStands, give_count};
 ghost use Rattle.switch_core.specs.Shown.{IsShown, shown_concerns};
@@ -16,9 +17,8 @@ use crate::seat::Seat;
 use crate::shown::Shown;
 use crate::slot::Slot;
 use km_port::{Console, Owned, Port, Vacant};
-use psd_base::act::{Act, Answer, Side};
+use psd_base::act::{Act, Answer};
 use psd_base::event::Tick;
-use psd_base::line::Line;
 use psd_base::port::{MAX_PORTS, PortId};
 use std::alloc::{AllocError, Global};
 use std::mem;
@@ -147,36 +147,17 @@ impl Ports {
         show_at(&mut self.seat, shown);
     }
 
-    /// Serves one act of a port's computer, and puts its line where the turn has it: over the line of an earlier act, since
-    /// a fresh one costs more.
-    pub fn serve_act(
-        &mut self,
-        tick: Tick,
-        port: PortId,
-        side: Side,
-        act: &Act,
-        line: &mut Option<(PortId, Line)>,
-    )
+    /// Answers an act at a port's keyboard and mouse, in the place that the caller has for the answer.
+    pub fn answer(&mut self, tick: Tick, port: PortId, act: &Act, answer: &mut Answer)
         requires { port ≤ port_count self.old }
         ensures count { port_count self.new ≡ port_count self.old }
         ensures gives { give_count self.new.seat ≡ give_count self.old.seat }
         ensures stands { (chosen : Option ℕ) (views : ℕ → List Item) → PortsStand self.old chosen views
-            → PortsStand self.new chosen (acted tick port side act.now views) }
-        ensures line { (chosen : Option ℕ) (views : ℕ → List Item) → PortsStand self.old chosen views
-            → line.new ≡ Some (port, line_of (views port) tick side act.now) }
+            → PortsStand self.new chosen (acted tick port Km act.now views) }
+        ensures answer { (chosen : Option ℕ) (views : ℕ → List Item) → PortsStand self.old chosen views
+            → answer.new ≡ answer_to (views port) tick Km act.now }
     {
-        match line {
-            Some((own, line)) => {
-                *own = port;
-                answer_act(&mut self.slots, &mut self.seat, tick, port, side, act, line);
-            }
-            None => {
-                *line = Some((port, first_line()));
-                if let Some((_, line)) = line {
-                    answer_act(&mut self.slots, &mut self.seat, tick, port, side, act, line);
-                }
-            }
-        }
+        answer_act(&mut self.slots, &mut self.seat, tick, port, act, answer);
     }
 }
 
@@ -281,7 +262,7 @@ fn vacated(slots: &mut [Slot], seat: Seat) -> Console<Vacant>
         Seat::Owned(console) => {
             let (console, farewell) = console.leave();
             let place = farewell.port().number() as usize - 1;
-            slots[place].bid(farewell);
+            slots[place].part(farewell);
             console
         }
         Seat::Between => unreachable!(),
@@ -365,15 +346,5 @@ fn offer(console: &mut Console<Owned>, shown: &Shown)
         Shown::Pointer(sample) => {
             let _ = console.pointer(sample);
         }
-    }
-}
-
-/// A line to be written over.
-fn first_line() -> Line {
-    Line {
-        tick: 0,
-        side: Side::Km,
-        act: Act::Reset,
-        answer: Answer::Silent,
     }
 }

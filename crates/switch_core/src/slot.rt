@@ -49,7 +49,7 @@ impl Slot {
     }
 
     /// Answers an act at the keyboard and mouse of a port that doesn't have the console. A dark port is silent.
-    #[inline(never)]
+    #[inline(always)]
     pub fn answer_apart(&mut self, tick: Tick, act: &Act, answer: &mut Answer)
         requires { IsTold false self.old }
         ensures slot { (number : ℕ) → IsSlot false number self.old → IsSlot false number self.new }
@@ -64,7 +64,7 @@ impl Slot {
     }
 
     /// The port loses the console.
-    pub fn bid(&mut self, farewell: Farewell)
+    pub fn part(&mut self, farewell: Farewell)
         requires { IsSlot true farewell.port self.old }
         ensures slot { IsSlot false farewell.port self.new }
         ensures stands { (tick : ℕ) (past : List Item) → SlotStands self.old past

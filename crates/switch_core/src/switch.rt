@@ -1,19 +1,21 @@
 //! The switch: its ports and its front, and the step that serves one event.
 ghost use Rattle.std.specs.Prelude.{◌≡◌, ℕ, ◌+◌, ◌-◌, ◌<◌, ◌≤◌, List, [], ◌∷◌, IfOk, IfSome, option_map};
-ghost use Rattle.psd_base.specs.Event.{Seen, seen, happening_of, HappensWithin, MovesWithin, AtFront, PanelMoves};
+ghost use Rattle.psd_base.specs.Event.{Seen, seen, happening_of, HappensWithin, MovesWithin};
+ghost use Rattle.psd_base.specs.Event.{AtFront, Detaches, PanelMoves, Reports};
 ghost use Rattle.peripheral_filter.specs.declared.rule.RuleSet.{RuleSet};
 ghost use Rattle.switch_core.specs.FrontEvents.{FrontEvent, front_event, front_of};
 ghost use Rattle.switch_core.specs.Chosen.{selected_at, selections};
 ghost use Rattle.switch_core.specs.Gives.{gives_at, gives_of};
 ghost use Rattle.switch_core.specs.Notes.{front_notes, notes_at};
-ghost use Rattle.switch_core.specs.Orders.{orders_at};
+ghost use Rattle.switch_core.specs.Orders.{front_orders, orders_at};
 ghost use Rattle.switch_core.specs.SlotStands.{views_of};
 ghost use Rattle.switch_core.specs.PortsStand.{PortsStand, port_count};
 ghost use Rattle.switch_core.specs.SeatStands.{give_count};
 ghost use Rattle.switch_core.specs.PartsStand.{PartsStand};
-ghost use Rattle.switch_core.specs.Lines.{line_at};
-ghost use Rattle.switch_core.specs.FrontStands.{FrontLivesWithin, FrontStands};
-ghost use Rattle.switch_core.specs.Peripherals.{peripheral_orders};
+ghost use Rattle.switch_core.specs.Lines.{line_at, line_with};
+ghost use Rattle.switch_core.specs.FrontStands.{FrontStands, FrontWithin};
+ghost use Rattle.auth_router.specs.Bridge.{BridgePast};
+ghost use Rattle.switch_core.specs.Bridges.{bridge_after, bridge_front};
 
 use crate::front::Front;
 use crate::ports::Ports;
@@ -21,7 +23,8 @@ use crate::turn::Turn;
 use fail_secure::HealthChange;
 use km_port::{Console, Owned};
 use peripheral_filter::RuleSet;
-use psd_base::console::{Notes, Orders, Panel};
+use psd_base::act::Side;
+use psd_base::console::{Notes, Orders, Panel, Plug};
 use psd_base::event::{EVENTS_MAX, Event, Tick, What};
 use psd_base::port::MAX_PORTS;
 use std::alloc::{AllocError, Global};
@@ -32,7 +35,7 @@ pub struct Switch {
     ports: Ports,
     front: Front,
     served: u32,
-    ghost few_lives: { FrontLivesWithin served front },
+    ghost few: { FrontWithin served front },
     ghost few_gives: { give_count ports.seat ≤ served },
 }
 
@@ -82,7 +85,7 @@ impl Switch {
         ensures stands { (rules : RuleSet) (past : List Seen) → StandsFor rules self.old past
             → StandsFor rules self.new (seen event.now ∷ past) }
         ensures gives { (rules : RuleSet) (past : List Seen) → StandsFor rules self.old past
-            → gives_of turn.new ≡ gives_at rules (seen event.now) past }
+            → gives_of (seen event.now) turn.new ≡ gives_at rules (seen event.now) past }
         ensures served { self.new.served ≡ self.old.served + 1 }
         ensures ports { port_total self.new ≡ port_total self.old }
     {
@@ -95,7 +98,7 @@ impl Switch {
 /// Serves one event of a turn without orders and notes.
 fn serve(ports: &mut Ports, front: &mut Front, event: &Event, turn: &mut Turn)
     requires known { HappensWithin (port_count ports.old) (happening_of event.now.what) }
-    requires lives { FrontLivesWithin (u32.MAX - 1) front.old }
+    requires within { FrontWithin (u32.MAX - 1) front.old }
     requires gives { give_count ports.old.seat < u32.MAX }
     requires no_orders { turn.old.orders.items ≡ [] }
     requires no_notes { turn.old.notes.items ≡ [] }
@@ -105,28 +108,27 @@ fn serve(ports: &mut Ports, front: &mut Front, event: &Event, turn: &mut Turn)
         → PortsStand ports.new (selected_at rules (front_of (seen event.now ∷ past))) (views_of rules (seen event.now ∷ past)) }
     ensures gives { (rules : RuleSet) (past : List Seen) → PartsStand rules ports.old front.old past
         → give_count ports.new.seat ≡ selections rules (front_of (seen event.now ∷ past)) }
-    ensures front { (rules : RuleSet) (past : List Seen) → FrontStands rules front.old (front_of past)
-        → FrontStands rules front.new (front_of (seen event.now ∷ past)) }
+    ensures front { (rules : RuleSet) (past : List Seen) → PartsStand rules ports.old front.old past
+        → FrontStands rules front.new (front_of (seen event.now ∷ past)) (bridge_after rules (seen event.now ∷ past)) }
     ensures line { (rules : RuleSet) (past : List Seen) → PartsStand rules ports.old front.old past
-        → turn.new.line ≡ line_at rules (seen event.now) past }
-    ensures orders { (rules : RuleSet) (past : List Seen) → FrontStands rules front.old (front_of past)
+        → line_with (seen event.now) turn.new.answer ≡ line_at rules (seen event.now) past }
+    ensures orders { (rules : RuleSet) (past : List Seen) → PartsStand rules ports.old front.old past
         → turn.new.orders.items ≡ orders_at rules (seen event.now) past }
-    ensures notes { (rules : RuleSet) (past : List Seen) → FrontStands rules front.old (front_of past)
+    ensures notes { (rules : RuleSet) (past : List Seen) → PartsStand rules ports.old front.old past
         → turn.new.notes.items ≡ notes_at rules (seen event.now) past }
-    ensures lives { (count : ℕ) → FrontLivesWithin count front.old → FrontLivesWithin (count + 1) front.new }
+    ensures within { (count : ℕ) → FrontWithin count front.old → FrontWithin (count + 1) front.new }
 {
     let tick = event.tick;
     match &event.what {
-        What::Port(port, side, act) => {
-            ports.serve_act(tick, *port, *side, act, &mut turn.line);
-        }
+        What::Port(port, side, act) => match side {
+            Side::Km => ports.answer(tick, *port, act, &mut turn.answer),
+            Side::Ua => front.answer(*port, act, &mut turn.answer, &mut turn.orders),
+        },
         What::Clock => {
-            turn.drop_line();
             front.clock(tick, &mut turn.orders, &mut turn.notes);
             ports.select(tick, front.selected());
         }
         What::Panel(panel) => {
-            turn.drop_line();
             serve_move(
                 ports,
                 front,
@@ -137,13 +139,10 @@ fn serve(ports: &mut Ports, front: &mut Front, event: &Event, turn: &mut Turn)
             );
         }
         What::Attach(plug) => {
-            turn.drop_line();
             front.attach(tick, *plug, &mut turn.orders);
         }
         What::Detach(plug) => {
-            turn.drop_line();
-            let shown = front.detach(*plug, &mut turn.orders);
-            ports.show(&shown);
+            serve_detach(ports, front, tick, *plug, &mut turn.orders);
         }
         What::Reply {
             plug,
@@ -152,7 +151,6 @@ fn serve(ports: &mut Ports, front: &mut Front, event: &Event, turn: &mut Turn)
             status,
             bytes,
         } => {
-            turn.drop_line();
             front.reply(
                 tick,
                 *plug,
@@ -169,11 +167,60 @@ fn serve(ports: &mut Ports, front: &mut Front, event: &Event, turn: &mut Turn)
             interface,
             bytes,
         } => {
-            turn.drop_line();
-            let shown = front.report(*plug, *interface, bytes);
-            ports.show(&shown);
+            serve_report(ports, front, *plug, *interface, bytes);
+        }
+        What::JobDone {
+            life,
+            number,
+            status,
+            bytes,
+        } => {
+            front.done(*life, *number, *status, bytes);
         }
     }
+}
+
+/// Serves that a peripheral is taken off. It is a call of its own, as that for a report is: what is shown lies in memory that
+/// is cleared where a call begins.
+#[inline(never)]
+fn serve_detach(ports: &mut Ports, front: &mut Front, tick: Tick, plug: Plug, orders: &mut Orders)
+    requires { orders.old.items ≡ [] }
+    ensures count { port_count ports.new ≡ port_count ports.old }
+    ensures few { give_count ports.new.seat ≡ give_count ports.old.seat }
+    ensures ports { (rules : RuleSet) (past : List Seen)
+        → let event : Seen = record { tick = tick; happening = AtFront (Detaches plug) } in
+        PartsStand rules ports.old front.old past
+        → PortsStand ports.new (selected_at rules (front_of (event ∷ past))) (views_of rules (event ∷ past)) }
+    ensures front { (rules : RuleSet) (past : List FrontEvent) (bridge : BridgePast)
+        → FrontStands rules front.old past bridge
+        → FrontStands rules front.new (front_event tick (Detaches plug) ∷ past)
+        (bridge_front rules (front_event tick (Detaches plug)) past bridge) }
+    ensures orders { (rules : RuleSet) (past : List FrontEvent) (bridge : BridgePast)
+        → FrontStands rules front.old past bridge
+        → orders.new.items ≡ front_orders rules (front_event tick (Detaches plug)) past }
+    ensures within { (count : ℕ) → FrontWithin count front.old → FrontWithin (count + 1) front.new }
+{
+    let shown = front.detach(tick, plug, orders);
+    ports.show(&shown);
+}
+
+/// Serves a report of a peripheral.
+#[inline(never)]
+fn serve_report(ports: &mut Ports, front: &mut Front, plug: Plug, interface: u8, bytes: &[u8])
+    ensures count { port_count ports.new ≡ port_count ports.old }
+    ensures few { give_count ports.new.seat ≡ give_count ports.old.seat }
+    ensures ports { (rules : RuleSet) (tick : ℕ) (past : List Seen)
+        → let event : Seen = record { tick = tick; happening = AtFront (Reports plug interface bytes.now) } in
+        PartsStand rules ports.old front.old past
+        → PortsStand ports.new (selected_at rules (front_of (event ∷ past))) (views_of rules (event ∷ past)) }
+    ensures front { (rules : RuleSet) (tick : ℕ) (past : List FrontEvent) (bridge : BridgePast)
+        → FrontStands rules front.old past bridge
+        → FrontStands rules front.new (front_event tick (Reports plug interface bytes.now) ∷ past)
+        (bridge_front rules (front_event tick (Reports plug interface bytes.now)) past bridge) }
+    ensures within { (count : ℕ) → FrontWithin count front.old → FrontWithin (count + 1) front.new }
+{
+    let shown = front.report(plug, interface, bytes);
+    ports.show(&shown);
 }
 
 /// Serves a move at the panel.
@@ -187,7 +234,7 @@ fn serve_move(
     notes: &mut Notes,
 )
     requires known { MovesWithin (port_count ports.old) panel }
-    requires lives { FrontLivesWithin (u32.MAX - 1) front.old }
+    requires within { FrontWithin (u32.MAX - 1) front.old }
     requires no_orders { orders.old.items ≡ [] }
     requires no_notes { notes.old.items ≡ [] }
     ensures count { port_count ports.new ≡ port_count ports.old }
@@ -195,13 +242,17 @@ fn serve_move(
     ensures ports { (rules : RuleSet) (past : List Seen) → let event : Seen = record { tick = tick; happening = AtFront (PanelMoves panel) } in
         PartsStand rules ports.old front.old past
         → PortsStand ports.new (selected_at rules (front_of (event ∷ past))) (views_of rules (event ∷ past)) }
-    ensures front { (rules : RuleSet) (past : List FrontEvent) → FrontStands rules front.old past
-        → FrontStands rules front.new (front_event tick (PanelMoves panel) ∷ past) }
-    ensures orders { (rules : RuleSet) (past : List FrontEvent) → FrontStands rules front.old past
-        → orders.new.items ≡ peripheral_orders rules (front_event tick (PanelMoves panel)) past }
-    ensures notes { (rules : RuleSet) (past : List FrontEvent) → FrontStands rules front.old past
+    ensures front { (rules : RuleSet) (past : List FrontEvent) (bridge : BridgePast)
+        → FrontStands rules front.old past bridge
+        → FrontStands rules front.new (front_event tick (PanelMoves panel) ∷ past)
+        (bridge_front rules (front_event tick (PanelMoves panel)) past bridge) }
+    ensures orders { (rules : RuleSet) (past : List FrontEvent) (bridge : BridgePast)
+        → FrontStands rules front.old past bridge
+        → orders.new.items ≡ front_orders rules (front_event tick (PanelMoves panel)) past }
+    ensures notes { (rules : RuleSet) (past : List FrontEvent) (bridge : BridgePast)
+        → FrontStands rules front.old past bridge
         → notes.new.items ≡ front_notes rules tick (PanelMoves panel) past }
-    ensures lives { (count : ℕ) → FrontLivesWithin count front.old → FrontLivesWithin (count + 1) front.new }
+    ensures within { (count : ℕ) → FrontWithin count front.old → FrontWithin (count + 1) front.new }
 {
     match front.moved(tick, &panel, orders, notes) {
         HealthChange::Stays => {}

@@ -24,6 +24,8 @@ reads-preserved g c =
         outlets = λ outlet apart. now.only.outlets outlet apart ∙ before.only.outlets outlet apart;
         read_counts = λ other. omega (arith, now.only.read_counts other, before.only.read_counts other);
         write_counts = λ outlet. omega (arith, now.only.write_counts outlet, before.only.write_counts outlet);
+        other_reads = λ other apart. now.only.other_reads other apart ∙ before.only.other_reads other apart;
+        other_writes = λ outlet apart. now.only.other_writes outlet apart ∙ before.only.other_writes outlet apart;
       };
     }
 

@@ -19,15 +19,15 @@ started : (g : given.Over) (c : In_ok-open_outlets g) (rules : RuleSet) (start :
     → IsBegun start c.args.reader.now (g.D.Desk.told c.args.desk.now)
     → Progress rules (rest_told c.args.reader.now (g.D.Desk.told c.args.desk.now)) start c.args.reader.now (g.D.Desk.told c.open_outlets.new.desk) c.args.server.now.switch c.args.server.now.tally
 started g c rules start fresh begun = Progress-start rules start c.args.reader.now (g.D.Desk.told c.args.desk.now) (g.D.Desk.told c.open_outlets.new.desk) _ _ fresh begun
-    (λ to. c.in_ok-open_outlets.ensures.untouched.outlets to (λ e. e))
-    (c.in_ok-open_outlets.ensures.untouched.inputs input.Capture (λ e. e)) (c.in_ok-open_outlets.ensures.untouched.inputs input.Script (λ e. e))
+    (λ to. c.in_ok-open_outlets.ensures.untouched.same to)
+    (c.in_ok-open_outlets.ensures.untouched.only.inputs input.Capture (λ e. e)) (c.in_ok-open_outlets.ensures.untouched.only.inputs input.Script (λ e. e))
 
 pub returns-in_err-open_outlets-clause-written : goal.returns-in_err-open_outlets-clause-written
 returns-in_err-open_outlets-clause-written g c =
     let p = err_from_is_err_and c.from_residual.result c.from_residual.ensures.1 in
     let stop = c.in_err-open_outlets.ensures.stop in
     rw (p.1, p.2, stop.1) (λ rules schedule start to fresh begun is.
-    (0, Grew-nothing (start.sent to) ((g.D.Desk.told c.open_outlets.new.desk).sent to) (c.open_outlets.ensures.untouched.outlets to (λ e. e) ∙ begun.unsent to)))
+    (0, Grew-nothing (start.sent to) ((g.D.Desk.told c.open_outlets.new.desk).sent to) (c.open_outlets.ensures.untouched.same to ∙ begun.unsent to)))
 
 pub returns-in_err-serve_all-clause-stop : goal.returns-in_err-serve_all-clause-stop
 returns-in_err-serve_all-clause-stop g c =
@@ -35,7 +35,7 @@ returns-in_err-serve_all-clause-stop g c =
     let opened = c.in_ok-open_outlets.ensures.untouched in
     rw (p.1, p.2) (λ rules start fresh begun. RunStops-serving _ _ _ (rest_told c.args.reader.now (g.D.Desk.told c.args.desk.now))
     (g.D.Desk.told c.args.desk.now) (g.D.Desk.told c.open_outlets.new.desk) (g.D.Desk.told c.serve_all.new.desk)
-    opened.read_counts opened.write_counts
+    opened.only.read_counts opened.only.write_counts
     (c.in_err-serve_all.ensures.stop rules (rest_told c.args.reader.now (g.D.Desk.told c.args.desk.now)) start
     (started g (goal.at.returns-in_err-serve_all-clause-stop g c).In_ok-open_outlets rules start fresh begun)))
 
@@ -60,9 +60,9 @@ returns-in_err-serve_all-clause-written g c =
 pub returns-in_err-serve_all-clause-above : goal.returns-in_err-serve_all-clause-above
 returns-in_err-serve_all-clause-above g c = λ rules start fresh begun port above.
     c.serve_all.ensures.above rules _ start (started g (goal.at.returns-in_err-serve_all-clause-above g c).In_ok-open_outlets rules start fresh begun) port above
-    ∙ (c.in_ok-open_outlets.ensures.untouched.outlets (outlet.Port port) (λ e. e) ∙ begun.unsent (outlet.Port port))
+    ∙ (c.in_ok-open_outlets.ensures.untouched.same (outlet.Port port) ∙ begun.unsent (outlet.Port port))
 
 pub returns-clause-above : goal.returns-clause-above
 returns-clause-above g c = λ rules start fresh begun port above.
     c.serve_all.ensures.above rules _ start (started g (goal.at.returns-clause-above g c).In_ok-open_outlets rules start fresh begun) port above
-    ∙ (c.in_ok-open_outlets.ensures.untouched.outlets (outlet.Port port) (λ e. e) ∙ begun.unsent (outlet.Port port))
+    ∙ (c.in_ok-open_outlets.ensures.untouched.same (outlet.Port port) ∙ begun.unsent (outlet.Port port))

@@ -4,7 +4,7 @@ use Rattle.psd_base.specs.declared.act.Side.TheVariants.{Km}
 use Rattle.km_port.specs.Concerns.{Item}
 use Rattle.switch_core.specs.SlotStands.{SlotStands}
 use Rattle.switch_core.specs.Wired.{is_owner}
-use Rattle.switch_core.proofs.Handing.{acted-other, acted-own, AllStand-token}
+use Rattle.switch_core.proofs.Handing.{acted-other, acted-own}
 use Rattle.switch_core.proofs.PortLists.{AllStand-number, AllStand-put, AreWired-number, AreWired-put}
 use Rattle.switch_core.proofs.answers.answer_act.Goals as goal
 
@@ -14,36 +14,31 @@ answer_km-requires c =
     let within : c.number.result - 1 < length c.args.slots.now = omega arith in
     AreWired-number _ _ _ _ (is_owner c.args.seat.now) numbered within c.requires.wired.wired
 
-pub returns-in-Km-clause-wired : goal.returns-in-Km-clause-wired
-returns-in-Km-clause-wired c =
+pub returns-clause-wired : goal.returns-clause-wired
+returns-clause-wired c =
     let numbered : c.number.result - 1 + 1 ≡ c.args.port = omega arith in
     record {
       seated = rw (length-set c.args.slots.now (c.number.result - 1) c.answer_km.new.slot, c.answer_km.ensures.seated (length c.args.slots.now)) c.requires.wired.seated;
       wired = AreWired-put _ _ _ _ _ _ numbered c.requires.wired.wired c.answer_km.ensures.slot (λ other apart. c.answer_km.ensures.owner other);
     }
 
-pub returns-in-Km-clause-slots : goal.returns-in-Km-clause-slots
-returns-in-Km-clause-slots c = λ chosen views each seat.
+pub returns-clause-slots : goal.returns-clause-slots
+returns-clause-slots c = λ chosen views each seat.
     let numbered : c.number.result - 1 + 1 ≡ c.args.port = omega arith in
     let within : c.number.result - 1 < length c.args.slots.now = omega arith in
     let after = c.answer_km.ensures.stands chosen views (AllStand-number _ _ _ _ views numbered within each) seat in
-    rw c.in-Km.is (AllStand-put _ _ _ _ _ _ numbered each
+    AllStand-put _ _ _ _ _ _ numbered each
     (subst (λ (past : List Item). SlotStands c.answer_km.new.slot past) (sym (acted-own c.args.tick c.args.port Km c.args.act.now views)) after)
-    (λ other apart. acted-other c.args.tick c.args.port other Km c.args.act.now views apart))
+    (λ other apart. acted-other c.args.tick c.args.port other Km c.args.act.now views apart)
 
-pub returns-in-Km-clause-seat : goal.returns-in-Km-clause-seat
-returns-in-Km-clause-seat c = λ chosen views each seat.
+pub returns-clause-seat : goal.returns-clause-seat
+returns-clause-seat c = λ chosen views each seat.
     let numbered : c.number.result - 1 + 1 ≡ c.args.port = omega arith in
     let within : c.number.result - 1 < length c.args.slots.now = omega arith in
-    rw c.in-Km.is (c.answer_km.ensures.seat chosen views (AllStand-number _ _ _ _ views numbered within each) seat)
+    c.answer_km.ensures.seat chosen views (AllStand-number _ _ _ _ views numbered within each) seat
 
-pub returns-in-Km-clause-line : goal.returns-in-Km-clause-line
-returns-in-Km-clause-line c = λ chosen views each seat.
+pub returns-clause-answer : goal.returns-clause-answer
+returns-clause-answer c = λ chosen views each seat.
     let numbered : c.number.result - 1 + 1 ≡ c.args.port = omega arith in
     let within : c.number.result - 1 < length c.args.slots.now = omega arith in
-    let answered = c.answer_km.ensures.answer chosen views (AllStand-number _ _ _ _ views numbered within each) seat in
-    rw (c.in-Km.is, c.copy_to.ensures, answered) refl
-
-pub returns-in-Ua-clause-slots : goal.returns-in-Ua-clause-slots
-returns-in-Ua-clause-slots c = λ chosen views each seat.
-    rw c.in-Ua.is (AllStand-token c.args.tick c.args.port c.args.act.now _ views each)
+    c.answer_km.ensures.answer chosen views (AllStand-number _ _ _ _ views numbered within each) seat

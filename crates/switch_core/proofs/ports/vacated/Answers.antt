@@ -7,8 +7,8 @@ use Rattle.switch_core.proofs.PortLists.{AllStand-number}
 use Rattle.switch_core.proofs.Wiring.{owner-within, owner-told, AllStand-left, AreWired-left}
 use Rattle.switch_core.proofs.ports.vacated.Goals as goal
 
-pub bid-requires : goal.bid-requires
-bid-requires c =
+pub part-requires : goal.part-requires
+part-requires c =
     let numbered : c.number.result - 1 + 1 ≡ c.leave-console.result.1.port = omega arith in
     owner-told _ c.in-Owned.console _ _ numbered c.leave-console.ensures.names (subst (IsWired _) c.in-Owned.is c.requires) _
 
@@ -18,7 +18,7 @@ returns-in-Vacant-clause-wired c = (subst (IsWired _) c.in-Vacant.is c.requires)
 pub returns-in-Owned-clause-wired : goal.returns-in-Owned-clause-wired
 returns-in-Owned-clause-wired c =
     let numbered : c.number.result - 1 + 1 ≡ c.leave-console.result.1.port = omega arith in
-    AreWired-left _ c.in-Owned.console _ _ numbered c.leave-console.ensures.names (subst (IsWired _) c.in-Owned.is c.requires) _ c.bid.ensures.slot
+    AreWired-left _ c.in-Owned.console _ _ numbered c.leave-console.ensures.names (subst (IsWired _) c.in-Owned.is c.requires) _ c.part.ensures.slot
 
 pub returns-in-Owned-clause-slots : goal.returns-in-Owned-clause-slots
 returns-in-Owned-clause-slots c = λ tick chosen views each stands.
@@ -27,4 +27,4 @@ returns-in-Owned-clause-slots c = λ tick chosen views each stands.
     let within = owner-within _ c.in-Owned.console _ _ numbered c.leave-console.ensures.names wired in
     AllStand-left _ c.in-Owned.console _ _ numbered c.leave-console.ensures.names wired _ tick chosen views each
     (subst (λ (at : Seat). SeatStands at chosen views) c.in-Owned.is stands).owner
-    (c.bid.ensures.stands tick _ (AllStand-number _ _ _ _ views numbered within each))
+    (c.part.ensures.stands tick _ (AllStand-number _ _ _ _ views numbered within each))

@@ -2,12 +2,13 @@
 use Rattle.std.proofs.Common.{inr, refl, ap, ◌∙◌}
 use Rattle.std.proofs.lemmas.Result.{IfErr-weaker}
 use Rattle.psd_base.specs.declared.outlet.Input.TheVariants as inputs
+use Rattle.capture_reader.specs.declared.fault.Fault.TheVariants.{Record, Line}
 use Rattle.capture_reader.specs.declared.progress.State.{State}
 use Rattle.capture_reader.specs.Ahead.{ahead_of, line_of}
 use Rattle.capture_reader.specs.Progress.{reading, given_in}
 use Rattle.capture_reader.specs.Reader.{rest, records_held, lines_held}
-use Rattle.capture_reader.proofs.Giving.{gave_same, looked_and_gave, looks_at, gave_of_capture, gave_of_script, too_long_behind, capture_behind, script_behind}
-use Rattle.capture_reader.proofs.Upcoming.{capture_stops, script_stops, ended, too_long, not_ok_true, record_lines, lines_still}
+use Rattle.capture_reader.proofs.Giving.{gave_same, looked_and_gave, looks_at, gave_of_capture, gave_of_script, too_many_behind, capture_behind, script_behind}
+use Rattle.capture_reader.proofs.Upcoming.{capture_stops, script_stops, ended, too_many, not_ok_true, record_lines, lines_still}
 use Rattle.capture_reader.proofs.progress.Progress.advance.Goals as goal
 
 pub returns-in-Waiting-clause-end : goal.returns-in-Waiting-clause-end
@@ -24,7 +25,7 @@ returns-in-Waiting-clause-cause g c =
     let before = rest (reading c.args.self.now) capture_left script_left in
     let reads = g.D.Desk.told c.args.desk.now in
     IfErr-weaker c.give.result _ _
-    (λ stop is. inr (too_long c.give.new.self c.args.self.now before capture_left script_left reads reads stop is.0 is.1 c.in-Waiting.is is.3 is.2 refl)) c.give.ensures.stop
+    (λ fault is. inr (too_many c.give.new.self c.args.self.now before capture_left script_left reads reads fault is.0 is.1 c.in-Waiting.is is.3 is.2 refl)) c.give.ensures.stop
 
 pub returns-in-Ok-clause-end : goal.returns-in-Ok-clause-end
 returns-in-Ok-clause-end g c is =
@@ -46,7 +47,7 @@ returns-in-Ok-clause-cause g c =
     ∙ ap (rest (reading now) ((g.D.Desk.told c.args.desk.now).left inputs.Capture)) (c.look_at_record.ensures.only.inputs inputs.Script (λ same. cc)) in
     let before = rest (reading now) ((g.D.Desk.told c.args.desk.now).left inputs.Capture) ((g.D.Desk.told c.args.desk.now).left inputs.Script) in
     IfErr-weaker c.give-in-Ok.result _ _
-    (λ stop is. inr (too_long c.give-in-Ok.new.self c.look_at_record.new.self before capture_left script_left (g.D.Desk.told c.args.desk.now) (g.D.Desk.told c.look_at_record.new.desk) stop
+    (λ fault is. inr (too_many c.give-in-Ok.new.self c.look_at_record.new.self before capture_left script_left (g.D.Desk.told c.args.desk.now) (g.D.Desk.told c.look_at_record.new.desk) fault
     is.0 is.1 c.in-Ok.ensures.ok is.3 is.2 looked))
     c.give-in-Ok.ensures.stop
 
@@ -61,7 +62,7 @@ returns-in-Err-clause-cause g c =
     let before = rest (reading now) ((g.D.Desk.told c.args.desk.now).left inputs.Capture) ((g.D.Desk.told c.args.desk.now).left inputs.Script) in
     let counts = c.look_at_record.ensures.counts in
     let failed = c.in-Err.ensures.err in
-    inr (capture_stops new before capture_left script_left (g.D.Desk.told c.args.desk.now) (g.D.Desk.told c.look_at_record.new.desk) c.in-Err.stop c.in-Err.stop
+    inr (capture_stops new before capture_left script_left (g.D.Desk.told c.args.desk.now) (g.D.Desk.told c.look_at_record.new.desk) (Record c.in-Err.fault) c.in-Err.fault
     failed.0 failed.1 (lines_still now new counts.4 counts.3 (record_lines now c.requires.sound c.in-GivenRecord.is)) looked failed.2)
 
 pub returns-in-Ok-look_at_line-clause-end : goal.returns-in-Ok-look_at_line-clause-end
@@ -84,7 +85,7 @@ returns-in-Ok-look_at_line-clause-cause g c =
     ∙ ap (λ left. rest (reading now) left ((g.D.Desk.told c.args.desk.now).left inputs.Script)) (c.look_at_line.ensures.only.inputs inputs.Capture (λ same. cc)) in
     let before = rest (reading now) ((g.D.Desk.told c.args.desk.now).left inputs.Capture) ((g.D.Desk.told c.args.desk.now).left inputs.Script) in
     IfErr-weaker c.give-in-Ok-look_at_line.result _ _
-    (λ stop is. inr (too_long c.give-in-Ok-look_at_line.new.self c.look_at_line.new.self before capture_left script_left (g.D.Desk.told c.args.desk.now) (g.D.Desk.told c.look_at_line.new.desk) stop
+    (λ fault is. inr (too_many c.give-in-Ok-look_at_line.new.self c.look_at_line.new.self before capture_left script_left (g.D.Desk.told c.args.desk.now) (g.D.Desk.told c.look_at_line.new.desk) fault
     is.0 is.1 c.in-Ok-look_at_line.ensures.ok is.3 is.2 looked))
     c.give-in-Ok-look_at_line.ensures.stop
 
@@ -98,7 +99,7 @@ returns-in-Err-look_at_line-clause-cause g c =
     ∙ ap (λ left. rest (reading now) left ((g.D.Desk.told c.args.desk.now).left inputs.Script)) (c.look_at_line.ensures.only.inputs inputs.Capture (λ same. cc)) in
     let before = rest (reading now) ((g.D.Desk.told c.args.desk.now).left inputs.Capture) ((g.D.Desk.told c.args.desk.now).left inputs.Script) in
     let failed = c.in-Err-look_at_line.ensures.err in
-    inr (script_stops new before capture_left script_left (g.D.Desk.told c.args.desk.now) (g.D.Desk.told c.look_at_line.new.desk) c.in-Err-look_at_line.stop c.in-Err-look_at_line.stop
+    inr (script_stops new before capture_left script_left (g.D.Desk.told c.args.desk.now) (g.D.Desk.told c.look_at_line.new.desk) (Line c.in-Err-look_at_line.fault) c.in-Err-look_at_line.fault
     failed.0 failed.1 c.look_at_line.ensures.sound.same_ports looked failed.2)
 
 -- what was taken
@@ -148,26 +149,26 @@ returns-in-Err-look_at_line-clause-looks g c =
 
 pub returns-in-Waiting-clause-behind : goal.returns-in-Waiting-clause-behind
 returns-in-Waiting-clause-behind g c =
-    IfErr-weaker c.give.result _ _ (λ stop is. inr (too_long_behind (reading c.args.self.now).given stop is.0)) c.give.ensures.stop
+    IfErr-weaker c.give.result _ _ (λ fault is. inr (too_many_behind (reading c.args.self.now).given fault is.0)) c.give.ensures.stop
 
 pub returns-in-Ok-clause-behind : goal.returns-in-Ok-clause-behind
 returns-in-Ok-clause-behind g c =
-    IfErr-weaker c.give-in-Ok.result _ _ (λ stop is. inr (too_long_behind (reading c.args.self.now).given stop is.0)) c.give-in-Ok.ensures.stop
+    IfErr-weaker c.give-in-Ok.result _ _ (λ fault is. inr (too_many_behind (reading c.args.self.now).given fault is.0)) c.give-in-Ok.ensures.stop
 
 pub returns-in-Ok-look_at_line-clause-behind : goal.returns-in-Ok-look_at_line-clause-behind
 returns-in-Ok-look_at_line-clause-behind g c =
-    IfErr-weaker c.give-in-Ok-look_at_line.result _ _ (λ stop is. inr (too_long_behind (reading c.args.self.now).given stop is.0)) c.give-in-Ok-look_at_line.ensures.stop
+    IfErr-weaker c.give-in-Ok-look_at_line.result _ _ (λ fault is. inr (too_many_behind (reading c.args.self.now).given fault is.0)) c.give-in-Ok-look_at_line.ensures.stop
 
 pub returns-in-Err-clause-behind : goal.returns-in-Err-clause-behind
 returns-in-Err-clause-behind g c =
     let now = c.args.self.now in
     let source = c.look_at_record.new.self.capture in
-    inr (capture_behind (reading now).given source.ports source.tick source.offset source.window (g.D.Desk.told c.args.desk.now) (g.D.Desk.told c.look_at_record.new.desk) c.in-Err.stop
+    inr (capture_behind (reading now).given source.ports source.tick source.offset source.window (g.D.Desk.told c.args.desk.now) (g.D.Desk.told c.look_at_record.new.desk) c.in-Err.fault
     (gave_of_capture now c.requires.sound c.in-GivenRecord.is) c.in-Err.ensures.err.2)
 
 pub returns-in-Err-look_at_line-clause-behind : goal.returns-in-Err-look_at_line-clause-behind
 returns-in-Err-look_at_line-clause-behind g c =
     let now = c.args.self.now in
     let source = c.look_at_line.new.self.script in
-    inr (script_behind (reading now).given source.ports source.tick source.line source.window (g.D.Desk.told c.args.desk.now) (g.D.Desk.told c.look_at_line.new.desk) c.in-Err-look_at_line.stop
+    inr (script_behind (reading now).given source.ports source.tick source.line source.window (g.D.Desk.told c.args.desk.now) (g.D.Desk.told c.look_at_line.new.desk) c.in-Err-look_at_line.fault
     (gave_of_script now c.requires.sound c.in-GivenLine.is) c.in-Err-look_at_line.ensures.err.2)

@@ -2,6 +2,7 @@
 use Rattle.std.proofs.Common.{◌∙◌, List, ℕ, Option, ap, sym, subst}
 use Rattle.std.proofs.lemmas.Result.{IfOk-weaker, IfErr-weaker}
 use Rattle.psd_base.specs.declared.outlet.Input.TheVariants as inputs
+use Rattle.capture_reader.specs.Fault.{stop_of}
 use Rattle.capture_reader.specs.Lines.{lines_in, lines_with_ahead, later_lines_of}
 use Rattle.capture_reader.specs.Progress.{reading}
 use Rattle.capture_reader.specs.Reader.{rest, NewFailed}
@@ -37,15 +38,15 @@ returns-in-Ok-clause-err g c =
     let same = ap (λ left. merged c.args.limit (later_of capture left) (lines_with_ahead c.look.new.self (left_looked inputs.Script))) (c.look.ensures.only.inputs inputs.Capture (λ same. cc))
     ∙ ap (merged c.args.limit (later_of capture (left inputs.Capture))) (sym c.in-Ok.ensures.read) in
     IfErr-weaker c.first_record.result _ _
-    (λ stop failed. failed_since _ (g.D.Desk.told c.args.desk.now) reads_looked reads_after stop c.look.ensures.only.read_counts
-    (subst (λ (before : Option Schedule). NewFailed before reads_looked reads_after ⊥ stop) same failed))
+    (λ fault failed. failed_since _ (g.D.Desk.told c.args.desk.now) reads_looked reads_after fault c.look.ensures.only.read_counts
+    (subst (λ (before : Option Schedule). NewFailed before reads_looked reads_after ⊥ (stop_of fault)) same failed))
     (c.first_record.ensures.err (left_looked inputs.Script))
 
 pub returns-in-Err-clause-err : goal.returns-in-Err-clause-err
 returns-in-Err-clause-err g c =
     let left = (g.D.Desk.told c.args.desk.now).left in
     script_failed c.look.new.self c.args.limit (later_of c.args.capture (left inputs.Capture)) (later_lines_of c.args.script (left inputs.Script)) ((g.D.Desk.told c.look.new.desk).left inputs.Script)
-    (g.D.Desk.told c.args.desk.now) (g.D.Desk.told c.look.new.desk) c.in-Err.stop c.in-Err.ensures.stays c.in-Err.ensures.err
+    (g.D.Desk.told c.args.desk.now) (g.D.Desk.told c.look.new.desk) c.in-Err.fault c.in-Err.ensures.stays c.in-Err.ensures.err
 
 pub returns-in-Ok-clause-took : goal.returns-in-Ok-clause-took
 returns-in-Ok-clause-took g c =
@@ -56,14 +57,14 @@ returns-in-Ok-clause-took g c =
 
 pub returns-in-Ok-clause-first : goal.returns-in-Ok-clause-first
 returns-in-Ok-clause-first g c =
-    IfErr-weaker c.first_record.result _ _ (λ stop failed.
-    first_since (records_in c.args.capture) (lines_in c.args.script) (g.D.Desk.told c.args.desk.now) (g.D.Desk.told c.look.new.desk) (g.D.Desk.told c.first_record.new.desk) stop
+    IfErr-weaker c.first_record.result _ _ (λ fault failed.
+    first_since (records_in c.args.capture) (lines_in c.args.script) (g.D.Desk.told c.args.desk.now) (g.D.Desk.told c.look.new.desk) (g.D.Desk.told c.first_record.new.desk) fault
     (c.look.ensures.only.inputs inputs.Capture (λ same. cc)) failed)
     (c.first_record.ensures.first (λ _. 1))
 
 pub returns-in-Err-clause-first : goal.returns-in-Err-clause-first
 returns-in-Err-clause-first g c =
-    script_first c.args.script c.look.new.self (records_in c.args.capture) (g.D.Desk.told c.args.desk.now) (g.D.Desk.told c.look.new.desk) c.in-Err.stop c.in-Err.ensures.none c.look.ensures.took c.in-Err.ensures.err
+    script_first c.args.script c.look.new.self (records_in c.args.capture) (g.D.Desk.told c.args.desk.now) (g.D.Desk.told c.look.new.desk) c.in-Err.fault c.in-Err.ensures.none c.look.ensures.took c.in-Err.ensures.err
 
 pub returns-in-Ok-clause-ends : goal.returns-in-Ok-clause-ends
 returns-in-Ok-clause-ends g c capture_end script_end =

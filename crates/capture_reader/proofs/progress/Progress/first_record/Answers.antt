@@ -1,9 +1,9 @@
 -- What is to come behind the first record.
 use Rattle.std.proofs.Common.{◌∙◌, ℕ, None, IfNone, sym, subst}
 use Rattle.psd_base.specs.declared.outlet.Input.TheVariants as inputs
+use Rattle.capture_reader.specs.Script.{lines}
 use Rattle.capture_reader.specs.Ahead.{line_of}
-use Rattle.capture_reader.specs.Lines.{LinesEnd}
-use Rattle.capture_reader.specs.Source.{later_of}
+use Rattle.capture_reader.specs.Source.{later_of, Ends}
 use Rattle.capture_reader.proofs.FirstLook.{rest_first, looked_first, capture_failed}
 use Rattle.capture_reader.specs.declared.progress.State.TheVariants.{Waiting}
 use Rattle.capture_reader.specs.Progress.{script_reading}
@@ -26,14 +26,14 @@ returns-in-Ok-clause-looked g c script_left =
     let left_after = (g.D.Desk.told c.look.new.desk).left inputs.Capture in
     let ports = c.requires.script.same_ports ∙ sym c.look.ensures.ports in
     looked_first new script c.args.limit _ left_after script_left c.in-Ok.ensures.end
-    (subst (λ (n : ℕ). IfNone (line_of script.ahead) (LinesEnd n script.tick script.line script.window None)) ports c.requires.script.lines)
+    (subst (λ (n : ℕ). IfNone (line_of script.ahead) (Ends (lines n script.tick script.line 0) script.window None)) ports c.requires.script.lines)
     (rest_first new script c.args.limit (later_of c.args.capture left) left_after script_left ports c.in-Ok.ensures.read)
 
 pub returns-in-Err-clause-err : goal.returns-in-Err-clause-err
 returns-in-Err-clause-err g c script_left =
     let left = (g.D.Desk.told c.args.desk.now).left inputs.Capture in
     let left_after = (g.D.Desk.told c.look.new.desk).left inputs.Capture in
-    capture_failed c.look.new.self c.args.script c.args.limit (later_of c.args.capture left) left_after script_left (g.D.Desk.told c.args.desk.now) (g.D.Desk.told c.look.new.desk) c.in-Err.stop
+    capture_failed c.look.new.self c.args.script c.args.limit (later_of c.args.capture left) left_after script_left (g.D.Desk.told c.args.desk.now) (g.D.Desk.told c.look.new.desk) c.in-Err.fault
     c.in-Err.ensures.stays c.requires.script.lines c.in-Err.ensures.err
 
 pub returns-in-Ok-clause-took : goal.returns-in-Ok-clause-took
@@ -48,4 +48,4 @@ returns-in-Ok-clause-took g c =
 
 pub returns-in-Err-clause-first : goal.returns-in-Err-clause-first
 returns-in-Err-clause-first g c lines =
-    capture_first c.args.capture c.look.new.self lines (g.D.Desk.told c.args.desk.now) (g.D.Desk.told c.look.new.desk) c.in-Err.stop c.in-Err.ensures.none c.look.ensures.took c.in-Err.ensures.err
+    capture_first c.args.capture c.look.new.self lines (g.D.Desk.told c.args.desk.now) (g.D.Desk.told c.look.new.desk) c.in-Err.fault c.in-Err.ensures.none c.look.ensures.took c.in-Err.ensures.err

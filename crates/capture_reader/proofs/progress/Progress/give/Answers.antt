@@ -1,7 +1,7 @@
 -- The next of the events that were read ahead is given, or there is none, or it is one too many.
 use Rattle.std.proofs.Common.{refl, ap, sym, ◌∙◌}
 use Rattle.std.proofs.lemmas.Result.{IfErr-weaker}
-use Rattle.psd_base.specs.declared.stop.Stop.TheVariants as stops
+use Rattle.capture_reader.specs.declared.fault.Fault.TheVariants.{TooMany}
 use Rattle.capture_reader.specs.declared.progress.State.{State}
 use Rattle.capture_reader.specs.Progress.{given_in}
 use Rattle.capture_reader.specs.Ahead.{ahead_of, line_of}
@@ -19,13 +19,13 @@ returns-in-Record-clause-next c is capture_left script_left =
 
 pub returns-in-Record-clause-rest : goal.returns-in-Record-clause-rest
 returns-in-Record-clause-rest c none capture_left script_left =
-    only_stops _ c.go_on.result none c.go_on.ensures.some c.go_on.ensures.full (λ stop is. refused_rest c.args.self.now c.go_on.new.self capture_left script_left c.requires.waiting is.2)
+    only_stops _ c.go_on.result none c.go_on.ensures.some c.go_on.ensures.full (λ fault is. refused_rest c.args.self.now c.go_on.new.self capture_left script_left c.requires.waiting is.2)
 
 pub returns-in-Record-clause-stop : goal.returns-in-Record-clause-stop
 returns-in-Record-clause-stop c =
     let now = c.args.self.now in
     IfErr-weaker c.go_on.result _ _
-    (λ stop is. (is.0, is.2, record_refused now c.go_on.new.self c.requires.sound c.requires.waiting (sym c.next_source.ensures ∙ c.in-Record.is) is.1 is.2, is.1))
+    (λ fault is. (is.0, is.2, record_refused now c.go_on.new.self c.requires.sound c.requires.waiting (sym c.next_source.ensures ∙ c.in-Record.is) is.1 is.2, is.1))
     c.go_on.ensures.full
 
 pub returns-in-Line-clause-next : goal.returns-in-Line-clause-next
@@ -37,13 +37,13 @@ returns-in-Line-clause-next c is capture_left script_left =
 pub returns-in-Line-clause-rest : goal.returns-in-Line-clause-rest
 returns-in-Line-clause-rest c none capture_left script_left =
     only_stops _ c.go_on-in-Line.result none c.go_on-in-Line.ensures.some c.go_on-in-Line.ensures.full
-    (λ stop is. refused_rest c.args.self.now c.go_on-in-Line.new.self capture_left script_left c.requires.waiting is.2)
+    (λ fault is. refused_rest c.args.self.now c.go_on-in-Line.new.self capture_left script_left c.requires.waiting is.2)
 
 pub returns-in-Line-clause-stop : goal.returns-in-Line-clause-stop
 returns-in-Line-clause-stop c =
     let now = c.args.self.now in
     IfErr-weaker c.go_on-in-Line.result _ _
-    (λ stop is. (is.0, is.2, line_refused now c.go_on-in-Line.new.self c.requires.sound c.requires.waiting (sym c.next_source.ensures ∙ c.in-Line.is) is.1 is.2, is.1))
+    (λ fault is. (is.0, is.2, line_refused now c.go_on-in-Line.new.self c.requires.sound c.requires.waiting (sym c.next_source.ensures ∙ c.in-Line.is) is.1 is.2, is.1))
     c.go_on-in-Line.ensures.full
 
 pub returns-in-End-clause-end : goal.returns-in-End-clause-end
@@ -63,14 +63,14 @@ returns-in-Record-clause-took c told =
     let now = c.args.self.now in
     let new = c.go_on.new.self in
     gave c.go_on.result c.go_on.ensures.some (λ is. gave_record now new now.capture.tick told c.requires.sound c.requires.waiting (c.go_on.ensures.more is).1)
-    (λ stop is. gave_nothing now new stops.TooLong told c.requires.waiting is.2) c.go_on.ensures.full
+    (λ fault is. gave_nothing now new TooMany told c.requires.waiting is.2) c.go_on.ensures.full
 
 pub returns-in-Line-clause-took : goal.returns-in-Line-clause-took
 returns-in-Line-clause-took c told =
     let now = c.args.self.now in
     let new = c.go_on-in-Line.new.self in
     gave c.go_on-in-Line.result c.go_on-in-Line.ensures.some (λ is. gave_line now new now.script.tick told c.requires.sound c.requires.waiting (c.go_on-in-Line.ensures.more is).1)
-    (λ stop is. gave_nothing now new stops.TooLong told c.requires.waiting is.2) c.go_on-in-Line.ensures.full
+    (λ fault is. gave_nothing now new TooMany told c.requires.waiting is.2) c.go_on-in-Line.ensures.full
 
 pub returns-in-End-clause-took : goal.returns-in-End-clause-took
 returns-in-End-clause-took c told =

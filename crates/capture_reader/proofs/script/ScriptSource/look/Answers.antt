@@ -2,10 +2,11 @@
 use Rattle.std.proofs.Common.{◌≡◌, ◌∙◌, ℕ, ◌+◌, List, false, None, refl, ap, sym}
 use Rattle.std.proofs.lemmas.Result.{on_ok_weaker, on_err_weaker}
 use Rattle.psd_base.specs.declared.outlet.Input.TheVariants as inputs
+use Rattle.capture_reader.proofs.Looks.{later_still, later_moves}
+use Rattle.capture_reader.specs.Script.{lines}
+use Rattle.capture_reader.specs.Source.{later}
 use Rattle.capture_reader.specs.Ahead.{line_of}
 use Rattle.capture_reader.specs.declared.script.ScriptSource.{ScriptSource}
-use Rattle.capture_reader.specs.Lines.{later_lines}
-use Rattle.capture_reader.proofs.ScriptLines.{later_lines_still, later_lines_move}
 use Rattle.capture_reader.specs.Lines.{lines_in}
 use Rattle.capture_reader.specs.Taken.{waiting}
 use Rattle.capture_reader.proofs.Counting.{script_took, on_either, nothing_counted}
@@ -17,9 +18,9 @@ returns-in-Ok-clause-read g c =
     let new = c.take_line.new.self in
     let left = (g.D.Desk.told c.args.desk.now).left inputs.Script in
     let left_after = (g.D.Desk.told c.hold_line.new.desk).left inputs.Script in
-    let before = later_lines_still now.ports now.tick now.line now.window c.hold_line.new.self left left_after c.hold_line.ensures.still in
+    let before = later_still (lines now.ports now.tick now.line 0) now.window c.hold_line.new.self left left_after c.hold_line.ensures.still in
     on_ok_weaker c.take_line.result
-    (λ moves. before ∙ later_lines_move now.ports now.tick now.line new.ports new.tick new.line c.hold_line.new.self new.window (line_of new.ahead) left_after moves)
+    (λ moves. before ∙ later_moves (lines now.ports now.tick now.line 0) (lines new.ports new.tick new.line 0) c.hold_line.new.self new.window (line_of new.ahead) left_after moves)
     c.take_line.ensures.read
 
 pub returns-in-Ok-clause-stays : goal.returns-in-Ok-clause-stays
@@ -27,9 +28,9 @@ returns-in-Ok-clause-stays g c =
     let now = c.args.self.now in
     let left = (g.D.Desk.told c.args.desk.now).left inputs.Script in
     let left_after = (g.D.Desk.told c.hold_line.new.desk).left inputs.Script in
-    let before = later_lines_still now.ports now.tick now.line now.window c.hold_line.new.self left left_after c.hold_line.ensures.still in
+    let before = later_still (lines now.ports now.tick now.line 0) now.window c.hold_line.new.self left left_after c.hold_line.ensures.still in
     on_err_weaker c.take_line.result
-    (λ same. ap (λ (source : ScriptSource). later_lines source.ports source.tick source.line source.window left_after) same ∙ sym before)
+    (λ same. ap (λ (source : ScriptSource). later (lines source.ports source.tick source.line 0) source.window left_after) same ∙ sym before)
     c.take_line.ensures.same
 
 pub returns-in-Ok-clause-err : goal.returns-in-Ok-clause-err
@@ -38,7 +39,7 @@ returns-in-Ok-clause-err g c = c.take_line.ensures.err (g.D.Desk.told c.args.des
 pub returns-in-Err-clause-stays : goal.returns-in-Err-clause-stays
 returns-in-Err-clause-stays g c =
     let now = c.args.self.now in
-    sym (later_lines_still now.ports now.tick now.line now.window c.hold_line.new.self ((g.D.Desk.told c.args.desk.now).left inputs.Script) ((g.D.Desk.told c.hold_line.new.desk).left inputs.Script) c.hold_line.ensures.still)
+    sym (later_still (lines now.ports now.tick now.line 0) now.window c.hold_line.new.self ((g.D.Desk.told c.args.desk.now).left inputs.Script) ((g.D.Desk.told c.hold_line.new.desk).left inputs.Script) c.hold_line.ensures.still)
 
 pub returns-in-Ok-clause-took : goal.returns-in-Ok-clause-took
 returns-in-Ok-clause-took g c =

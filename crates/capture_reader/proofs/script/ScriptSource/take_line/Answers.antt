@@ -1,10 +1,11 @@
 -- A whole line, whatever comes behind it.
 use Rattle.std.proofs.Common.{◌≡◌, ℕ, ◌+◌, ◌<◌, ◌≤◌, Option, None, IfNone, List, length, length-take, take, refl, sym, ap, ◌∙◌, subst, arith}
-use Rattle.psd_base.specs.declared.stop.Stop.{Stop}
+use Rattle.capture_reader.specs.Source.{Ends}
+use Rattle.capture_reader.specs.declared.fault.LineFault.{LineFault}
 use Rattle.capture_reader.specs.declared.form.Said.{Said}
 use Rattle.capture_reader.specs.Ahead.{line_of, said_seen}
 use Rattle.capture_reader.specs.Schedule.{in_front}
-use Rattle.capture_reader.specs.Lines.{LineLookFailed, LinesEnd}
+use Rattle.capture_reader.specs.Lines.{LineLookFailed}
 use Rattle.capture_reader.specs.Script.{line_at, lines}
 use Rattle.capture_reader.specs.Window.{Held, coming}
 use Rattle.capture_reader.proofs.ScriptLines.{lines_end-empty, lines_end-faulty, line_moves_on}
@@ -15,7 +16,7 @@ pub returns-then-len-eq0-clause-end : goal.returns-then-len-eq0-clause-end
 returns-then-len-eq0-clause-end c =
     let now = c.args.self.now in
     let none : length now.window.bytes ≡ 0 = omega arith in
-    subst (λ (ahead : Option Said). IfNone (line_of ahead) (LinesEnd now.ports now.tick now.line now.window None)) (sym c.requires.none)
+    subst (λ (ahead : Option Said). IfNone (line_of ahead) (Ends (lines now.ports now.tick now.line 0) now.window None)) (sym c.requires.none)
     (lines_end-empty now.ports now.tick now.line now.window c.args.size c.requires.front none)
 
 pub returns-in-Ok-clause-read : goal.returns-in-Ok-clause-read
@@ -34,7 +35,7 @@ returns-in-Err-clause-err c before after =
     let now = c.args.self.now in
     let some : 0 < length now.window.bytes = omega arith in
     let line = ap (λ (bytes : List ℕ). take c.args.size bytes) (sym c.bytes.ensures) in
-    subst (λ (stop : Stop). LineLookFailed now.ports now.tick now.line now.window before after stop) (sym c.fault.ensures)
+    subst (λ (fault : LineFault). LineLookFailed now.ports now.tick now.line now.window before after fault) (sym c.fault.ensures)
     (lines_end-faulty now.ports now.tick now.line now.window c.args.size c.in-Err.why c.requires.front some (ap (line_at now.ports now.tick) line ∙ c.in-Err.ensures.err))
 
 pub returns-then-len-eq0-clause-counted : goal.returns-then-len-eq0-clause-counted

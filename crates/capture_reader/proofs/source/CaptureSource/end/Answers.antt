@@ -1,7 +1,7 @@
 -- Behind the end of the input nothing comes.
 use Rattle.std.proofs.Common.{◌≡◌, ◌<◌, length, sym, subst, arith}
 use Rattle.std.proofs.lemmas.List.{nil_from_length}
-use Rattle.psd_base.specs.declared.stop.Stop.{Stop}
+use Rattle.capture_reader.specs.declared.fault.RecordFault.{RecordFault}
 use Rattle.capture_reader.specs.Source.{LookFailed}
 use Rattle.capture_reader.proofs.Looks.{ends_empty, ends_short}
 use Rattle.capture_reader.proofs.source.CaptureSource.end.Goals as goal
@@ -16,5 +16,5 @@ pub returns-clause-err : goal.returns-clause-err
 returns-clause-err c before after =
     let now = c.args.self.now in
     let some : 0 < length now.window.bytes = omega arith in
-    subst (λ (stop : Stop). LookFailed now.ports now.tick now.offset now.window before after stop) (sym c.fault.ensures)
+    subst (λ (fault : RecordFault). LookFailed now.ports now.tick now.offset now.window before after fault) (sym c.fault.ensures)
     (ends_short now.ports now.tick now.offset now.window c.requires.ended some c.requires.short)

@@ -2,6 +2,7 @@
 use Rattle.std.proofs.Common.{None, refl, ◌∙◌, sym, subst}
 use Rattle.std.proofs.lemmas.Result.{on_ok_weaker, IfErr-weaker}
 use Rattle.psd_base.specs.declared.outlet.Input.TheVariants as inputs
+use Rattle.capture_reader.specs.Capture.{records}
 use Rattle.capture_reader.specs.Ahead.{ahead_of}
 use Rattle.capture_reader.specs.Source.{later_of, records_in}
 use Rattle.capture_reader.specs.Taken.{Took}
@@ -12,13 +13,13 @@ use Rattle.capture_reader.proofs.source.CaptureSource.look.Goals as goal
 pub returns-in-Ok-false-clause-read : goal.returns-in-Ok-false-clause-read
 returns-in-Ok-false-clause-read g c =
     let now = c.args.self.now in
-    let before = later_still now.ports now.tick now.offset now.window c.hold.new.self ((g.D.Desk.told c.args.desk.now).left inputs.Capture) ((g.D.Desk.told c.hold.new.desk).left inputs.Capture) c.hold.ensures.still in
+    let before = later_still (records now.ports now.tick now.offset 0) now.window c.hold.new.self ((g.D.Desk.told c.args.desk.now).left inputs.Capture) ((g.D.Desk.told c.hold.new.desk).left inputs.Capture) c.hold.ensures.still in
     on_ok_weaker c.end.result (λ _. before ∙ nothing_ahead None _ refl) c.end.ensures.ok
 
 pub returns-in-Ok-false-clause-stays : goal.returns-in-Ok-false-clause-stays
 returns-in-Ok-false-clause-stays g c =
     let now = c.args.self.now in
-    let before = later_still now.ports now.tick now.offset now.window c.hold.new.self ((g.D.Desk.told c.args.desk.now).left inputs.Capture) ((g.D.Desk.told c.hold.new.desk).left inputs.Capture) c.hold.ensures.still in
+    let before = later_still (records now.ports now.tick now.offset 0) now.window c.hold.new.self ((g.D.Desk.told c.args.desk.now).left inputs.Capture) ((g.D.Desk.told c.hold.new.desk).left inputs.Capture) c.hold.ensures.still in
     IfErr-weaker c.end.result _ _ (λ stop _. sym before) (c.end.ensures.err (g.D.Desk.told c.args.desk.now) (g.D.Desk.told c.hold.new.desk))
 
 pub returns-in-Ok-false-clause-err : goal.returns-in-Ok-false-clause-err
@@ -28,19 +29,19 @@ pub returns-in-Ok-clause-read : goal.returns-in-Ok-clause-read
 returns-in-Ok-clause-read g c =
     let now = c.args.self.now in
     let new = c.look_at_head.new.self in
-    let before = later_still now.ports now.tick now.offset now.window c.hold.new.self ((g.D.Desk.told c.args.desk.now).left inputs.Capture) ((g.D.Desk.told c.hold.new.desk).left inputs.Capture) c.hold.ensures.still in
+    let before = later_still (records now.ports now.tick now.offset 0) now.window c.hold.new.self ((g.D.Desk.told c.args.desk.now).left inputs.Capture) ((g.D.Desk.told c.hold.new.desk).left inputs.Capture) c.hold.ensures.still in
     before ∙ ahead_read (ahead_of new.ahead) _ (later_of new ((g.D.Desk.told c.look_at_head.new.desk).left inputs.Capture)) (some_and (ahead_of new.ahead) (λ event is. is.1) c.in-Ok.ensures.ok)
 
 pub returns-in-Err-look_at_head-clause-stays : goal.returns-in-Err-look_at_head-clause-stays
 returns-in-Err-look_at_head-clause-stays g c =
     let now = c.args.self.now in
-    let before = later_still now.ports now.tick now.offset now.window c.hold.new.self ((g.D.Desk.told c.args.desk.now).left inputs.Capture) ((g.D.Desk.told c.hold.new.desk).left inputs.Capture) c.hold.ensures.still in
+    let before = later_still (records now.ports now.tick now.offset 0) now.window c.hold.new.self ((g.D.Desk.told c.args.desk.now).left inputs.Capture) ((g.D.Desk.told c.hold.new.desk).left inputs.Capture) c.hold.ensures.still in
     c.in-Err-look_at_head.ensures.stays ∙ sym before
 
 pub returns-in-Err-clause-stays : goal.returns-in-Err-clause-stays
 returns-in-Err-clause-stays g c =
     let now = c.args.self.now in
-    sym (later_still now.ports now.tick now.offset now.window c.hold.new.self ((g.D.Desk.told c.args.desk.now).left inputs.Capture) ((g.D.Desk.told c.hold.new.desk).left inputs.Capture) c.hold.ensures.still)
+    sym (later_still (records now.ports now.tick now.offset 0) now.window c.hold.new.self ((g.D.Desk.told c.args.desk.now).left inputs.Capture) ((g.D.Desk.told c.hold.new.desk).left inputs.Capture) c.hold.ensures.still)
 
 pub returns-in-Err-clause-err : goal.returns-in-Err-clause-err
 returns-in-Err-clause-err g c = (c.in-Err.ensures.failed, partial_short _ _ _ c.hold.new.self c.in-Err.ensures.short, c.in-Err.ensures.open)

@@ -1,15 +1,16 @@
 -- A faulty head shows its fault, whatever comes behind it.
 use Rattle.std.proofs.Common.{sym, ap, ◌∙◌, subst}
-use Rattle.psd_base.specs.declared.stop.Stop.{Stop}
-use Rattle.capture_reader.specs.Capture.{head_of, announced}
+use Rattle.capture_reader.specs.declared.fault.RecordFault.{RecordFault}
+use Rattle.capture_reader.specs.Capture.{announced}
 use Rattle.capture_reader.specs.Source.{LookFailed}
 use Rattle.capture_reader.proofs.Looks.{ends_head}
+use Rattle.capture_reader.proofs.Records.{head_read}
 use Rattle.capture_reader.proofs.source.CaptureSource.look_at_head.Goals as goal
 
 pub returns-in-Err-clause-err : goal.returns-in-Err-clause-err
 returns-in-Err-clause-err g c =
     let now = c.args.self.now in
     let faults = g.D.Desk.told c.args.desk.now in
-    let head = c.read_head-head.ensures ∙ ap head_of c.bytes.ensures in
-    subst (λ (stop : Stop). LookFailed now.ports now.tick now.offset now.window faults faults stop) (sym c.fault.ensures)
-    (ends_head now.ports now.tick now.offset now.window c.in-Err.why c.requires.whole (ap (announced now.ports now.tick) (sym head) ∙ sym c.in-Err.ensures.value))
+    let head = head_read c.bytes-bytes.result.now now.window.bytes c.from_le_bytes.result c.from_le_bytes-2.result c.bytes-bytes.ensures c.from_le_bytes.ensures c.from_le_bytes-2.ensures in
+    subst (λ (fault : RecordFault). LookFailed now.ports now.tick now.offset now.window faults faults fault) (sym c.fault.ensures)
+    (ends_head now.ports now.tick now.offset now.window c.in-Err.why c.requires.whole (ap (announced now.ports now.tick) head ∙ sym c.in-Err.ensures.value))

@@ -1,8 +1,9 @@
 -- What is found behind a sound head.
-use Rattle.std.proofs.Common.{Ok, ◌∙◌, ap, sym, subst}
+use Rattle.std.proofs.Common.{Some, Ok, ◌∙◌, ap, sym, subst}
 use Rattle.std.proofs.lemmas.Result.{on_ok_weaker, on_err_weaker}
 use Rattle.psd_base.specs.declared.outlet.Input.TheVariants as inputs
-use Rattle.psd_base.specs.declared.stop.Stop.{Stop}
+use Rattle.capture_reader.specs.Capture.{records}
+use Rattle.capture_reader.specs.declared.fault.RecordFault.{RecordFault}
 use Rattle.capture_reader.specs.Ahead.{ahead_of}
 use Rattle.capture_reader.specs.declared.source.CaptureSource.{CaptureSource}
 use Rattle.capture_reader.specs.Source.{LookFailed, later}
@@ -16,10 +17,10 @@ returns-in-Ok-true-clause-ok g c =
     let new = c.take_record.new.self in
     let left = (g.D.Desk.told c.args.desk.now).left inputs.Capture in
     let left_after = (g.D.Desk.told c.hold.new.desk).left inputs.Capture in
-    let before = later_still now.ports now.tick now.offset now.window c.hold.new.self left left_after c.hold.ensures.still in
+    let before = later_still (records now.ports now.tick now.offset 0) now.window c.hold.new.self left left_after c.hold.ensures.still in
     on_ok_weaker c.take_record.result
     (some_and (ahead_of new.ahead) (λ event found.
-    (found.0, before ∙ later_moves now.ports now.tick now.offset new.ports new.tick new.offset c.hold.new.self new.window event left_after found.1)))
+    (found.0, before ∙ later_moves (records now.ports now.tick now.offset 0) (records new.ports new.tick new.offset 0) c.hold.new.self new.window (Some event) left_after found.1)))
     c.take_record.ensures.ahead
 
 pub returns-in-Ok-true-clause-stays : goal.returns-in-Ok-true-clause-stays
@@ -27,9 +28,9 @@ returns-in-Ok-true-clause-stays g c =
     let now = c.args.self.now in
     let left = (g.D.Desk.told c.args.desk.now).left inputs.Capture in
     let left_after = (g.D.Desk.told c.hold.new.desk).left inputs.Capture in
-    let before = later_still now.ports now.tick now.offset now.window c.hold.new.self left left_after c.hold.ensures.still in
+    let before = later_still (records now.ports now.tick now.offset 0) now.window c.hold.new.self left left_after c.hold.ensures.still in
     on_err_weaker c.take_record.result
-    (λ same. ap (λ (source : CaptureSource). later source.ports source.tick source.offset source.window left_after) same ∙ sym before)
+    (λ same. ap (λ (source : CaptureSource). later (records source.ports source.tick source.offset 0) source.window left_after) same ∙ sym before)
     c.take_record.ensures.same
 
 pub returns-in-Ok-true-clause-err : goal.returns-in-Ok-true-clause-err
@@ -42,7 +43,7 @@ returns-in-Ok-false-clause-err g c =
     let held = c.hold.new.self in
     let ended = c.in-Ok-false.ensures.ended (ap Ok c.in-Ok-false.field-0-test) in
     let sound = announces_longer now.ports now.tick now.window.bytes held.bytes c.args.head.now c.args.form c.requires.sound c.hold.ensures.front in
-    subst (λ (stop : Stop). LookFailed now.ports now.tick now.offset held (g.D.Desk.told c.args.desk.now) (g.D.Desk.told c.hold.new.desk) stop)
+    subst (λ (fault : RecordFault). LookFailed now.ports now.tick now.offset held (g.D.Desk.told c.args.desk.now) (g.D.Desk.told c.hold.new.desk) fault)
     (sym c.fault.ensures) (ends_cut now.ports now.tick now.offset held c.args.head.now c.args.form sound ended.0 ended.1)
 
 pub returns-in-Err-clause-err : goal.returns-in-Err-clause-err
@@ -54,12 +55,12 @@ returns-in-Err-clause-err g c =
 pub returns-in-Ok-false-clause-stays : goal.returns-in-Ok-false-clause-stays
 returns-in-Ok-false-clause-stays g c =
     let now = c.args.self.now in
-    sym (later_still now.ports now.tick now.offset now.window c.hold.new.self ((g.D.Desk.told c.args.desk.now).left inputs.Capture) ((g.D.Desk.told c.hold.new.desk).left inputs.Capture) c.hold.ensures.still)
+    sym (later_still (records now.ports now.tick now.offset 0) now.window c.hold.new.self ((g.D.Desk.told c.args.desk.now).left inputs.Capture) ((g.D.Desk.told c.hold.new.desk).left inputs.Capture) c.hold.ensures.still)
 
 pub returns-in-Err-clause-stays : goal.returns-in-Err-clause-stays
 returns-in-Err-clause-stays g c =
     let now = c.args.self.now in
-    sym (later_still now.ports now.tick now.offset now.window c.hold.new.self ((g.D.Desk.told c.args.desk.now).left inputs.Capture) ((g.D.Desk.told c.hold.new.desk).left inputs.Capture) c.hold.ensures.still)
+    sym (later_still (records now.ports now.tick now.offset 0) now.window c.hold.new.self ((g.D.Desk.told c.args.desk.now).left inputs.Capture) ((g.D.Desk.told c.hold.new.desk).left inputs.Capture) c.hold.ensures.still)
 
 pub returns-in-Ok-true-clause-took : goal.returns-in-Ok-true-clause-took
 returns-in-Ok-true-clause-took g c =

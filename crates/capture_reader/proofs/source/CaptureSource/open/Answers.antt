@@ -2,11 +2,13 @@
 use Rattle.std.proofs.Common.{◌≡◌, false, Ok, Err, ap, sym, ◌∙◌, subst}
 use Rattle.std.proofs.lemmas.Result.{IfOk-weaker, IfErr-weaker}
 use Rattle.psd_base.specs.declared.outlet.Input.TheVariants as inputs
+use Rattle.capture_reader.specs.Capture.{records}
+use Rattle.capture_reader.specs.Fault.{record_stop}
 use Rattle.capture_reader.specs.Source.{later}
 use Rattle.capture_reader.specs.Window.{EndIsTrue, Held, still}
 use Rattle.capture_reader.proofs.Opening.{all_is, header_told, header_cut, records_told, open_failed}
 use Rattle.capture_reader.proofs.Counting.{IfOk-both}
-use Rattle.capture_reader.proofs.FirstTaken.{opened, none_opened, capture_stop_first}
+use Rattle.capture_reader.proofs.FirstTaken.{opened, none_opened, faulty_first}
 use Rattle.capture_reader.proofs.source.CaptureSource.open.Goals as goal
 
 pub returns-in-Ok-true-clause-header : goal.returns-in-Ok-true-clause-header
@@ -26,7 +28,7 @@ returns-in-Ok-true-clause-records g c =
     let all = all_is held left left_after (c.hold.ensures.still ∙ ap (λ (window : Held). still window left) c.requires) in
     let whole = c.in-Ok-true.ensures.held (ap Ok c.in-Ok-true.field-0-test) in
     IfOk-weaker c.behind_header.result _ _
-    (λ source is. records_told held left left_after source.ports all whole ∙ ap (λ (window : Held). later source.ports 0 8 window left_after) (sym is.1))
+    (λ source is. records_told held left left_after source.ports all whole ∙ ap (λ (window : Held). later (records source.ports 0 8 0) window left_after) (sym is.1))
     c.behind_header.ensures.behind
 
 pub returns-in-Ok-true-clause-err : goal.returns-in-Ok-true-clause-err
@@ -37,7 +39,7 @@ returns-in-Ok-true-clause-err g c =
     let all = all_is held left left_after (c.hold.ensures.still ∙ ap (λ (window : Held). still window left) c.requires) in
     let whole = c.in-Ok-true.ensures.held (ap Ok c.in-Ok-true.field-0-test) in
     IfErr-weaker c.behind_header.result _ _
-    (λ stop is. open_failed (g.D.Desk.told c.args.desk.now) (g.D.Desk.told c.hold.new.desk) stop is.1 (header_told held left left_after (Err stop) all whole is.0))
+    (λ fault is. open_failed (g.D.Desk.told c.args.desk.now) (g.D.Desk.told c.hold.new.desk) fault is.1 (header_told held left left_after (Err (record_stop fault)) all whole is.0))
     c.behind_header.ensures.err
 
 pub returns-in-Ok-false-clause-err : goal.returns-in-Ok-false-clause-err
@@ -61,7 +63,7 @@ returns-in-Ok-true-clause-took g c =
 
 pub returns-in-Ok-true-clause-first : goal.returns-in-Ok-true-clause-first
 returns-in-Ok-true-clause-first g c =
-    IfErr-weaker c.behind_header.result _ _ (λ stop is. capture_stop_first (g.D.Desk.told c.args.desk.now) (g.D.Desk.told c.hold.new.desk) stop is.1) c.behind_header.ensures.err
+    IfErr-weaker c.behind_header.result _ _ (λ fault is. faulty_first (g.D.Desk.told c.args.desk.now) (g.D.Desk.told c.hold.new.desk) fault is.1) c.behind_header.ensures.err
 
 pub returns-in-Err-clause-first : goal.returns-in-Err-clause-first
 returns-in-Err-clause-first g c =

@@ -1,6 +1,6 @@
 -- A whole record, whatever comes behind it.
 use Rattle.std.proofs.Common.{◌≡◌, List, ℕ, slice_range, Ok, IsSomeAnd, sym, ap, ◌∙◌, subst}
-use Rattle.psd_base.specs.declared.stop.Stop.{Stop}
+use Rattle.capture_reader.specs.declared.fault.RecordFault.{RecordFault}
 use Rattle.capture_reader.specs.Ahead.{ahead_of}
 use Rattle.capture_reader.specs.Capture.{size_of, happening_in}
 use Rattle.capture_reader.specs.Source.{LookFailed}
@@ -21,5 +21,5 @@ pub returns-in-Err-clause-err : goal.returns-in-Err-clause-err
 returns-in-Err-clause-err c before after =
     let now = c.args.self.now in
     let payload = ap (λ bytes. happening_in c.args.form (slice_range bytes 8 (size_of c.args.head.now))) (sym c.bytes.ensures) in
-    subst (λ (stop : Stop). LookFailed now.ports now.tick now.offset now.window before after stop) (sym c.fault.ensures)
+    subst (λ (fault : RecordFault). LookFailed now.ports now.tick now.offset now.window before after fault) (sym c.fault.ensures)
     (ends_field now.ports now.tick now.offset now.window c.args.head.now c.args.form c.in-Err.why c.requires.sound c.requires.enough (payload ∙ c.in-Err.ensures.err))

@@ -10,7 +10,7 @@ use Rattle.kvm_program.proofs.replay.Server.serve.Goals as goal
 pub returns-clause-counted : goal.returns-clause-counted
 returns-clause-counted g c = λ rules past stands counts.
     let wrote = c.write_turn.ensures in
-    Counts-more rules c.write_turn.result _ _ (gives_of c.step.new.turn) (seen c.args.event.now) past (c.step.ensures.gives rules past stands) counts wrote.counted wrote.left wrote.refused
+    Counts-more rules c.write_turn.result _ _ (gives_of (seen c.args.event.now) c.step.new.turn) (seen c.args.event.now) past (c.step.ensures.gives rules past stands) counts wrote.counted wrote.left wrote.refused
 
 pub returns-clause-wrote : goal.returns-clause-wrote
 returns-clause-wrote g c = λ rules past stands to.

@@ -1,7 +1,0 @@
--- The first element of the usage is in the fields that are left.
-use Rattle.std.proofs.Common.{◌≡◌, drop}
-use Rattle.hid_report.specs.Pointer.{first_element}
-use Rattle.hid_report.proofs.layout.Layout.value_of.Given as goal
-
-abbrev pub invariant-loop-field : goal.invariant-loop-field
-invariant-loop-field l = first_element l.id l.usage l.field-items ≡ first_element l.id l.usage (drop l.field-index l.field-items)

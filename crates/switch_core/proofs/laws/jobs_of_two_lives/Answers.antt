@@ -1,0 +1,6 @@
+-- The law over whole histories.
+use Rattle.switch_core.proofs.Owning.{jobs_of_two_lives}
+use Rattle.switch_core.proofs.laws.jobs_of_two_lives.Goals as goal
+
+pub returns : goal.returns
+returns c = jobs_of_two_lives

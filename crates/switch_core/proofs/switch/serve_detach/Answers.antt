@@ -1,0 +1,22 @@
+-- What the console shows then reaches the selected port.
+use Rattle.std.proofs.Common.{List, subst}
+use Rattle.psd_base.specs.Event.{AtFront, Detaches}
+use Rattle.km_port.specs.Concerns.{Concern}
+use Rattle.switch_core.specs.Bridges.{bridge_after}
+use Rattle.switch_core.specs.Chosen.{selected_at}
+use Rattle.switch_core.specs.FrontEvents.{front_of}
+use Rattle.switch_core.specs.PortsStand.{PortsStand}
+use Rattle.switch_core.specs.SlotStands.{views_of}
+use Rattle.switch_core.specs.View.{news_at}
+use Rattle.switch_core.specs.Views.{shown_to}
+use Rattle.switch_core.proofs.Hearing.{PortsStand-heard}
+use Rattle.switch_core.proofs.switch.serve_detach.Goals as goal
+
+pub returns-clause-ports : goal.returns-clause-ports
+returns-clause-ports c = λ rules past parts.
+    let tick = c.args.tick in
+    let chosen = selected_at rules (front_of past) in
+    PortsStand-heard c.show.new.self tick (λ number. news_at rules number tick (AtFront (Detaches c.args.plug)) (front_of past)) _ _
+    (subst (λ (concerns : List Concern). PortsStand c.show.new.self chosen (shown_to tick chosen concerns (views_of rules past)))
+    (c.detach-shown.ensures.shown rules (front_of past) (bridge_after rules past) parts.front_stands)
+    (c.show.ensures.stands tick chosen (views_of rules past) parts.ports_stand))
