@@ -1,6 +1,6 @@
 //! The bridge from one computer's token connector to the token.
 ghost use Rattle.std.specs.Prelude.{◌≡◌, ◌+◌, ◌<◌, ◌≤◌, [], None, false, length, slice_get};
-ghost use Rattle.psd_base.specs.declared.console.TheConstants.{ORDERS_MAX};
+ghost use Rattle.psd_base.specs.declared.orders.TheConstants.{ORDERS_MAX};
 ghost use Rattle.psd_base.specs.declared.packet.TheConstants.{PACKET_SIZE};
 ghost use Rattle.auth_router.specs.Bridge.{BridgePast, IsDown, IsUp, bridge_answer, bridge_made, bridge_jobs, bridge_takes, after_act, after_done};
 ghost use Rattle.auth_router.specs.BridgeStands.{BridgeStands, jobs_of};
@@ -101,7 +101,7 @@ impl Bridge {
         let mut answer = Answer::Silent;
         let mut orders = Orders::new();
         self.answer(act, &mut answer, &mut orders);
-        (answer, first_job(&mut orders))
+        (answer, first_job(orders))
     }
 
     /// Takes the token's word that a job of a life is done, with a status and bytes. False exactly for another life or
@@ -134,11 +134,11 @@ fn take(live: &mut Option<Live>, act: &Act, answer: &mut Answer, orders: &mut Or
     }
 }
 
-/// The job of the first order, which is taken out.
-fn first_job(orders: &mut Orders) -> Option<Job>
-    ensures { result ≡ job_in (slice_get orders.old.items 0) }
+/// The job of the first order.
+fn first_job(orders: Orders) -> Option<Job>
+    ensures { result ≡ job_in (slice_get orders.items 0) }
 {
-    match orders.pop_at(0) {
+    match orders.into_first() {
         Some(Order::Job(job)) => Some(job),
         Some(Order::On { .. }) => None,
         Some(Order::Off { .. }) => None,

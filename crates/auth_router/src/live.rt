@@ -1,7 +1,7 @@
 //! The bridge while it is up.
 ghost use Rattle.std.specs.Prelude.{◌≡◌, ◌+◌, ◌<◌, ◌≤◌, ◌==◌, ◌&&◌, ◌||◌, not, IsTrue, if◌then◌else◌, option_map, is_some, length, []};
 ghost use Rattle.psd_base.specs.declared.packet.TheConstants.{PACKET_SIZE};
-ghost use Rattle.psd_base.specs.declared.console.TheConstants.{ORDERS_MAX};
+ghost use Rattle.psd_base.specs.declared.orders.TheConstants.{ORDERS_MAX};
 ghost use Rattle.auth_router.specs.JobOrders.{ordered};
 ghost use Rattle.auth_router.specs.LiveStep.{opened_live, reset_live, is_reached_live, begun_live, orphaned_control, orphaned_endpoint, completed_live, endpoints_after, with_job, control_in_live, control_in_job, ask_job, asked_live, is_control_work, control_out_live, in_live, in_job_live, out_live, out_job_live, settled_live, settled_work, live_answer, live_job, live_after, hears, heard_live};
 ghost use Rattle.auth_router.specs.EndpointStep.{polled_answer, out_reply};

@@ -21,7 +21,7 @@ kept_seen tick bytes saying = record { tick = tick; happening = kept_happening b
 
 -- the record that was read ahead
 abbrev pub ahead_of : Ahead → Option Seen
-ahead_of ahead = option_map (kept_seen ahead.tick ahead.bytes.items) ahead.kept
+ahead_of ahead = option_map (kept_seen ahead.tick ahead.bytes) ahead.kept
 
 -- what a line says
 abbrev pub said_seen : Said → Seen

@@ -1,5 +1,5 @@
 -- A reader's value by its parts, and what is so of the parts.
-use Rattle.std.specs.Prelude.{◌≡◌, ℕ, ◌+◌, ◌*◌, ◌≤◌, Bool, true, false, Option, Some, None, nat_le, if◌then◌else◌, IsSome, IfSome, IfNone}
+use Rattle.std.specs.Prelude.{◌≡◌, ℕ, ◌+◌, ◌*◌, ◌≤◌, Bool, true, false, Option, Some, None, Result, Ok, Err, nat_le, if◌then◌else◌, IsSome, IfSome, IfNone}
 use Rattle.psd_base.specs.declared.event.TheConstants.{EVENTS_MAX}
 use Rattle.psd_base.specs.declared.port.TheConstants.{MAX_PORTS}
 use Rattle.psd_base.specs.declared.stop.Stop.{Stop}
@@ -80,6 +80,15 @@ reading progress = record {
   capture = capture_reading progress.state progress.capture;
   script = script_reading progress.state progress.script;
 }
+
+-- the same progress where nothing is given of what was read ahead
+abbrev pub as_waiting : Progress → Progress
+as_waiting progress = record progress { state = Waiting }
+
+-- the progress behind a look: where it succeeded, nothing is given of what was read ahead
+abbrev pub after_look : {Done Fault : Type 0} → Result Done Fault → Progress → Progress
+after_look (Ok done) progress = as_waiting progress
+after_look (Err fault) progress = progress
 
 -- how many records, and how many lines, were read at most, and one more
 abbrev pub read_at_most : State → ℕ → ℕ

@@ -3,8 +3,7 @@ ghost use Rattle.std.specs.Prelude.{◌≡◌, [], Some, None, IsSome};
 ghost use Rattle.psd_base.specs.Event.{happening_of, seen};
 ghost use Rattle.capture_reader.specs.Ahead.{ahead_of, kept_happening};
 
-use arrayvec::ArrayVec;
-use psd_base::{Act, BLOCK_SIZE, Event, Plug, PortId, Side, Tick, What};
+use psd_base::{Act, Buffer, Event, Plug, PortId, Side, Tick, What};
 
 /// What a record says. The bytes of a reply, of a report or of a job's end stand beside it.
 #[derive(Drop)]
@@ -36,7 +35,7 @@ pub enum Kept {
 pub struct Ahead {
     pub tick: Tick,
     pub kept: Option<Kept>,
-    pub bytes: ArrayVec<u8, BLOCK_SIZE>,
+    pub bytes: Buffer,
 }
 
 impl Ahead {
@@ -47,7 +46,7 @@ impl Ahead {
         Ahead {
             tick: 0,
             kept: None,
-            bytes: ArrayVec::new(),
+            bytes: Buffer::new(),
         }
     }
 

@@ -8,7 +8,6 @@ ghost use Rattle.psd_base.specs.Event.{AtFront, HappensWithin};
 
 use crate::ahead::{Ahead, Kept};
 use crate::form::{ActKind, Form, Kind, PlugKind};
-use arrayvec::ArrayVec;
 use psd_base::{
     Act, BLOCK_SIZE, CaptureFault, PACKET_SIZE, Packet, Plug, PortId, Setup, Side, Tick,
 };
@@ -173,7 +172,7 @@ fn read_doing(
 ) -> Result<(), CaptureFault>
     requires { IsTrue (has_fit_length (Kind.Plug kind) (length payload.now)) }
     ensures ok { OnOk result (IsOkAnd (doing_of kind plug payload.now) (λ doing.
-        IsSomeAnd into.new.kept (λ kept. kept_happening into.new.bytes.items kept ≡ AtFront doing))) }
+        IsSomeAnd into.new.kept (λ kept. kept_happening into.new.bytes kept ≡ AtFront doing))) }
     ensures err { IfErr result (λ why. doing_of kind plug payload.now ≡ Err why) }
     ensures same { OnErr result (into.new ≡ into.old) }
 {
@@ -199,7 +198,7 @@ fn read_reply(plug: Plug, payload: &[u8], into: &mut Ahead) -> Result<(), Captur
     requires at_least { 9 ≤ length payload.now }
     requires at_most { length payload.now ≤ 9 + BLOCK_SIZE }
     ensures ok { OnOk result (IsOkAnd (doing_of PlugKind.Reply plug payload.now) (λ doing.
-        IsSomeAnd into.new.kept (λ kept. kept_happening into.new.bytes.items kept ≡ AtFront doing))) }
+        IsSomeAnd into.new.kept (λ kept. kept_happening into.new.bytes kept ≡ AtFront doing))) }
     ensures err { IfErr result (λ why. doing_of PlugKind.Reply plug payload.now ≡ Err why) }
     ensures same { OnErr result (into.new ≡ into.old) }
 {
@@ -213,7 +212,7 @@ fn read_reply(plug: Plug, payload: &[u8], into: &mut Ahead) -> Result<(), Captur
         number: u32::from_le_bytes([payload[4], payload[5], payload[6], payload[7]]),
         status,
     });
-    keep_bytes(&payload[9..], &mut into.bytes);
+    into.bytes.replace(&payload[9..]);
     Ok(())
 }
 
@@ -222,13 +221,13 @@ fn read_report(plug: Plug, payload: &[u8], into: &mut Ahead)
     requires at_least { 1 ≤ length payload.now }
     requires at_most { length payload.now ≤ 1 + PACKET_SIZE }
     ensures { IsOkAnd (doing_of PlugKind.Report plug payload.now) (λ doing.
-        IsSomeAnd into.new.kept (λ kept. kept_happening into.new.bytes.items kept ≡ AtFront doing)) }
+        IsSomeAnd into.new.kept (λ kept. kept_happening into.new.bytes kept ≡ AtFront doing)) }
 {
     into.kept = Some(Kept::Report {
         plug,
         interface: payload[0],
     });
-    keep_bytes(&payload[1..], &mut into.bytes);
+    into.bytes.replace(&payload[1..]);
 }
 
 /// Puts the end of a job of the token into its place, by the payload of such a record.
@@ -236,7 +235,7 @@ fn read_report(plug: Plug, payload: &[u8], into: &mut Ahead)
 fn read_job(payload: &[u8], into: &mut Ahead) -> Result<(), CaptureFault>
     requires { IsTrue (has_fit_length Kind.Job (length payload.now)) }
     ensures ok { OnOk result (IsOkAnd (finished_in payload.now) (λ doing.
-        IsSomeAnd into.new.kept (λ kept. kept_happening into.new.bytes.items kept ≡ AtFront doing))) }
+        IsSomeAnd into.new.kept (λ kept. kept_happening into.new.bytes kept ≡ AtFront doing))) }
     ensures err { IfErr result (λ why. finished_in payload.now ≡ Err why) }
     ensures same { OnErr result (into.new ≡ into.old) }
 {
@@ -249,15 +248,6 @@ fn read_job(payload: &[u8], into: &mut Ahead) -> Result<(), CaptureFault>
         number: u32::from_le_bytes([payload[4], payload[5], payload[6], payload[7]]),
         status,
     });
-    keep_bytes(&payload[9..], &mut into.bytes);
+    into.bytes.replace(&payload[9..]);
     Ok(())
-}
-
-/// Writes these bytes over those that were kept.
-fn keep_bytes(bytes: &[u8], into: &mut ArrayVec<u8, BLOCK_SIZE>)
-    requires { length bytes.now ≤ BLOCK_SIZE }
-    ensures { into.new.items ≡ bytes.now }
-{
-    into.clear();
-    let _ = into.try_extend_from_slice(bytes);
 }

@@ -38,7 +38,7 @@ impl Progress {
     ghost use Rattle.capture_reader.specs.Ahead.{ahead_of, line_of};
     ghost use Rattle.capture_reader.specs.Fault.{stop_of};
     ghost use Rattle.capture_reader.specs.Lines.{lines_in, lines_later, lines_with_ahead, FailedLineLook};
-    ghost use Rattle.capture_reader.specs.Progress.{reading, script_reading, IsOpened, IsUnread, IsLookedAt, IsSound};
+    ghost use Rattle.capture_reader.specs.Progress.{reading, script_reading, as_waiting, after_look, IsOpened, IsUnread, IsLookedAt, IsSound};
     ghost use Rattle.capture_reader.specs.Reader.{rest, rest_told, records_held, lines_held, TookBoth, EndsAreTrue, GivesNext, IsAtEnd, IsInOrder, IsLooked, IsOver, NewFailed, ShowsOver, StopsBecause};
     ghost use Rattle.capture_reader.specs.Merge.{schedule_told, merged, port_count};
     ghost use Rattle.capture_reader.specs.Source.{records_in, records_later, FailedLook};
@@ -235,35 +235,32 @@ impl Progress {
         }
     }
 
-    /// Looks behind the record that was given.
+    /// Looks behind the record that was given. Where that succeeds, the state is left for `give` to set.
     #[inline(always)]
     fn look_at_record<D: Desk>(&mut self, desk: &mut D) -> Result<(), RecordFault>
         requires given { self.old.state ≡ State.GivenRecord }
         requires sound { IsSound self.old }
-        ensures sound { IsSound self.new }
+        ensures sound { IsSound (after_look result self.new) }
         ensures counts { (self.new.limit ≡ self.old.limit) × (self.new.served ≡ self.old.served)
             × (self.new.tick ≡ self.old.tick)
             × (self.new.capture.ports ≡ self.old.capture.ports) × (self.new.script ≡ self.old.script) }
         ensures rest { (left : Option (List ℕ))
-            → rest (reading self.new) ((D.told desk.new).left Input.Capture) left
+            → rest (reading (after_look result self.new)) ((D.told desk.new).left Input.Capture) left
             ≡ rest (reading self.old) ((D.told desk.old).left Input.Capture) left }
         ensures unread { self.old.capture.window.ended ≡ true → (self.new.capture.window.ended ≡ true)
             × (desk.new ≡ desk.old) }
         ensures capture_end { EndIsTrue self.old.capture.window ((D.told desk.old).left Input.Capture)
             → EndIsTrue self.new.capture.window ((D.told desk.new).left Input.Capture) }
         ensures took { TookBoth (records_held self.old.capture.ports (reading self.old).capture)
-            (lines_held (reading self.old).script) (reading self.new) (D.told desk.old) (D.told desk.new) }
-        ensures ok { OnOk result (self.new.state ≡ State.Waiting) }
+            (lines_held (reading self.old).script) (reading (after_look result self.new))
+            (D.told desk.old) (D.told desk.new) }
         ensures err { IfErr result (λ fault. (self.new.state ≡ State.Stopped (Fault.Record fault))
             × (ahead_of self.new.capture.ahead ≡ None)
             × FailedLook self.new.capture (D.told desk.old) (D.told desk.new) fault) }
         ensures only { OnlyReads Input.Capture (D.told desk.old) (D.told desk.new) }
     {
         match self.capture.look(desk) {
-            Ok(()) => {
-                self.state = State::Waiting;
-                Ok(())
-            }
+            Ok(()) => Ok(()),
             Err(fault) => {
                 self.state = State::Stopped(Fault::Record(fault));
                 Err(fault)
@@ -271,34 +268,31 @@ impl Progress {
         }
     }
 
-    /// Looks behind the line that was given.
+    /// Looks behind the line that was given. Where that succeeds, the state is left for `give` to set.
     fn look_at_line<D: Desk>(&mut self, desk: &mut D) -> Result<(), LineFault>
         requires given { self.old.state ≡ State.GivenLine }
         requires sound { IsSound self.old }
-        ensures sound { IsSound self.new }
+        ensures sound { IsSound (after_look result self.new) }
         ensures counts { (self.new.limit ≡ self.old.limit) × (self.new.served ≡ self.old.served)
             × (self.new.tick ≡ self.old.tick)
             × (self.new.capture ≡ self.old.capture) }
         ensures rest { (left : Option (List ℕ))
-            → rest (reading self.new) left ((D.told desk.new).left Input.Script)
+            → rest (reading (after_look result self.new)) left ((D.told desk.new).left Input.Script)
             ≡ rest (reading self.old) left ((D.told desk.old).left Input.Script) }
         ensures unread { self.old.script.window.ended ≡ true → (self.new.script.window.ended ≡ true)
             × (desk.new ≡ desk.old) }
         ensures script_end { EndIsTrue self.old.script.window ((D.told desk.old).left Input.Script)
             → EndIsTrue self.new.script.window ((D.told desk.new).left Input.Script) }
         ensures took { TookBoth (records_held self.old.capture.ports (reading self.old).capture)
-            (lines_held (reading self.old).script) (reading self.new) (D.told desk.old) (D.told desk.new) }
-        ensures ok { OnOk result (self.new.state ≡ State.Waiting) }
+            (lines_held (reading self.old).script) (reading (after_look result self.new))
+            (D.told desk.old) (D.told desk.new) }
         ensures err { IfErr result (λ fault. (self.new.state ≡ State.Stopped (Fault.Line fault))
             × (line_of self.new.script.ahead ≡ None)
             × FailedLineLook self.new.script (D.told desk.old) (D.told desk.new) fault) }
         ensures only { OnlyReads Input.Script (D.told desk.old) (D.told desk.new) }
     {
         match self.script.look(desk) {
-            Ok(()) => {
-                self.state = State::Waiting;
-                Ok(())
-            }
+            Ok(()) => Ok(()),
             Err(fault) => {
                 self.state = State::Stopped(Fault::Line(fault));
                 Err(fault)
@@ -306,35 +300,36 @@ impl Progress {
         }
     }
 
-    /// Gives the next of the events that were read ahead and not given, and answers whether there is one.
+    /// Gives the next of the events that were read ahead, and answers whether there is one. None of these was given,
+    /// whatever the state says.
     #[inline(always)]
     fn give(&mut self) -> Result<bool, Fault>
-        requires waiting { self.old.state ≡ State.Waiting }
-        requires sound { IsSound self.old }
+        requires sound { IsSound (as_waiting self.old) }
         ensures sound { IsSound self.new }
         ensures counts { (self.new.limit ≡ self.old.limit) × (self.new.capture ≡ self.old.capture)
             × (self.new.script ≡ self.old.script)
             × (self.old.tick ≤ self.new.tick) }
 
         ensures next { result ≡ Ok true → (capture script : Option (List ℕ))
-            → GivesNext (reading self.new) (rest (reading self.old) capture script) (rest (reading self.new) capture script) }
+            → GivesNext (reading self.new) (rest (reading (as_waiting self.old)) capture script)
+            (rest (reading self.new) capture script) }
         ensures served { result ≡ Ok true → self.new.served ≡ self.old.served + 1 }
         ensures going { result ≡ Ok true → (reading self.new).stopped ≡ None }
         ensures order { result ≡ Ok true → IfSome (reading self.new).given
             (IsInOrder self.old.tick self.new.tick self.new.capture.ports) }
-        ensures end { result ≡ Ok false → (self.new ≡ self.old) × (ahead_of self.old.capture.ahead ≡ None)
+        ensures end { result ≡ Ok false → (self.new ≡ as_waiting self.old) × (ahead_of self.old.capture.ahead ≡ None)
             × (line_of self.old.script.ahead ≡ None)
             × ShowsOver None (reading self.new) }
         ensures met { result ≡ Ok false → (self.new.capture.window.ended ≡ true)
             × (self.new.script.window.ended ≡ true) }
         ensures none { ahead_of self.old.capture.ahead ≡ None → line_of self.old.script.ahead ≡ None
             → (result ≡ Ok false)
-            × (self.new ≡ self.old) }
+            × (self.new ≡ as_waiting self.old) }
         ensures rest { result ≢ Ok true → (capture script : Option (List ℕ))
-            → rest (reading self.new) capture script ≡ rest (reading self.old) capture script }
+            → rest (reading self.new) capture script ≡ rest (reading (as_waiting self.old)) capture script }
         ensures took { (told : Told)
-            → TookBoth (records_held self.old.capture.ports (reading self.old).capture)
-            (lines_held (reading self.old).script) (reading self.new) told told }
+            → TookBoth (records_held self.old.capture.ports (reading (as_waiting self.old)).capture)
+            (lines_held (reading (as_waiting self.old)).script) (reading self.new) told told }
         ensures stop { IfErr result (λ fault. (fault ≡ Fault.TooMany)
             × (self.new ≡ record self.old { state = State.Stopped Fault.TooMany })
             × ShowsOver (Some (stop_of Fault.TooMany)) (reading self.new) × (self.old.served ≡ self.old.limit)) }
@@ -342,7 +337,10 @@ impl Progress {
         match next_source(&self.capture.ahead, &self.script.ahead) {
             Next::Record => self.go_on(State::GivenRecord, self.capture.tick),
             Next::Line => self.go_on(State::GivenLine, self.script.tick),
-            Next::End => Ok(false),
+            Next::End => {
+                self.state = State::Waiting;
+                Ok(false)
+            }
         }
     }
 

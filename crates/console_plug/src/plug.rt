@@ -1,6 +1,7 @@
 //! The power of one plug, and the enumeration of the peripheral in it.
 ghost use Rattle.std.specs.Prelude.{◌≡◌, ◌+◌, ◌<◌, ◌≤◌, ◌++◌, List, [], ◌∷◌, length, true, false, ◌&&◌, IsTrue, None, Some, IfSome, option_copied};
-ghost use Rattle.psd_base.specs.declared.console.TheConstants.{NOTES_MAX, ORDERS_MAX};
+ghost use Rattle.psd_base.specs.declared.console.TheConstants.{NOTES_MAX};
+ghost use Rattle.psd_base.specs.declared.orders.TheConstants.{ORDERS_MAX};
 ghost use Rattle.psd_base.specs.declared.console.Plug.{Plug};
 ghost use Rattle.peripheral_filter.specs.declared.rule.RuleSet.{RuleSet};
 ghost use Rattle.console_host.specs.Replies.{reply_of};

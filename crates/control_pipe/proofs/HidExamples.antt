@@ -1,7 +1,7 @@
 -- Which setup is which class request, by its eight bytes.
 use Rattle.std.specs.Prelude.{◌≡◌, ℕ, List, [], ◌∷◌, Option, Some, None, refl}
 use Rattle.psd_base.specs.Setup.{setup_of}
-use Rattle.control_pipe.specs.declared.hid_request.Protocol.TheVariants.{Boot, Report}
+use Rattle.control_pipe.specs.declared.hid_request.Protocol.TheVariants.{Boot}
 use Rattle.control_pipe.specs.declared.hid_request.HidRequest.{HidRequest}
 use Rattle.control_pipe.specs.declared.hid_request.HidRequest.TheVariants.{GetInput, GetOutput, GetIdle, GetProtocol, SetOutput, SetIdle, SetProtocol}
 use Rattle.control_pipe.specs.HidRequests.{hid_request}

@@ -1,5 +1,5 @@
 -- How many bytes the host sends for a class request that sets something.
-use Rattle.std.proofs.Common.{◌≡◌, ℕ, ◌≤◌, ◌/◌, ◌%◌, Bool, true, false, ◌&&◌, ◌==◌, Option, Some, None, refl, sym, ap, ◌∙◌, arith, if◌then◌else◌}
+use Rattle.std.proofs.Common.{◌≡◌, ℕ, ◌≤◌, ◌/◌, ◌%◌, Bool, true, false, ◌&&◌, ◌==◌, Option, Some, None, refl, ap, ◌∙◌, arith, if◌then◌else◌}
 use Rattle.std.proofs.lemmas.Bool.{and_parts, eqb-true, false≢true}
 use Rattle.psd_base.specs.declared.packet.TheConstants.{PACKET_SIZE}
 use Rattle.psd_base.specs.declared.setup.Setup.{Setup}
@@ -7,8 +7,7 @@ use Rattle.control_pipe.specs.declared.codes.TheConstants.{CLASS_TO_INTERFACE, C
 use Rattle.control_pipe.specs.declared.hid_request.Protocol.TheVariants.{Boot, Report}
 use Rattle.control_pipe.specs.declared.hid_request.HidRequest.{HidRequest}
 use Rattle.control_pipe.specs.declared.hid_request.HidRequest.TheVariants.{GetInput, GetOutput, GetIdle, GetProtocol, SetOutput, SetIdle, SetProtocol}
-use Rattle.control_pipe.specs.Requests.{when}
-use Rattle.control_pipe.specs.HidRequests.{reading_request, idle_to_set, protocol_to_set, writing_request, hid_request, is_setting, bytes_sent}
+use Rattle.control_pipe.specs.HidRequests.{reading_request, writing_request, hid_request, is_setting, bytes_sent}
 
 -- a request that is found by a list of tests
 record Sends (length : ℕ) (found : Option HidRequest) : Type 0 where

@@ -2,7 +2,7 @@
 use Rattle.std.specs.Prelude.{ℕ, List, [], ◌∷◌, Option, Some, None}
 use Rattle.control_pipe.specs.declared.hid_request.Protocol.TheVariants.{Report}
 use Rattle.control_pipe.specs.declared.hid_request.HidRequest.{HidRequest}
-use Rattle.control_pipe.specs.declared.hid_request.HidRequest.TheVariants.{GetInput, GetOutput, GetIdle, GetProtocol, SetOutput, SetIdle, SetProtocol}
+use Rattle.control_pipe.specs.declared.hid_request.HidRequest.TheVariants.{GetIdle, GetProtocol, SetIdle, SetProtocol}
 use Rattle.control_pipe.specs.declared.hid_settings.HidSettings.{HidSettings}
 use Rattle.control_pipe.specs.HidRequests.{protocol_code}
 

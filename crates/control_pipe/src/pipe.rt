@@ -150,8 +150,8 @@ impl<F: Function> Pipe<F> {
                 if *address != self.registers.address {
                     return silence(answer);
                 }
-                self.begin(setup);
                 *answer = Answer::Ack;
+                self.begin(setup);
                 Effect::Nothing
             }
             Act::Out {
@@ -189,7 +189,8 @@ impl<F: Function> Pipe<F> {
         Effect::Reset
     }
 
-    /// Takes up the request of a setup.
+    /// Takes up the request of a setup. It stands out of line, so that a setup alone pays for its room on the stack.
+    #[inline(never)]
     fn begin(&mut self, setup: &Setup)
         ensures progress { self.new.progress
             ≡ begun_progress PACKET_SIZE setup.now (due_for self.old.registers

@@ -97,6 +97,7 @@ impl Endpoint {
 
 impl Request {
     /// The request that a setup is, if all its fields are right.
+    #[inline(always)]
     pub(crate) fn of(setup: &Setup) -> Option<Request>
         ensures { result ≡ request_of setup.now }
     {

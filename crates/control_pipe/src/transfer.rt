@@ -3,8 +3,8 @@ ghost use Rattle.std.specs.Prelude.{◌≡◌, ◌+◌, ◌*◌, ◌%◌, ◌==�
 ghost use Rattle.std.specs.Option.{ForSome, option_copied};
 ghost use Rattle.control_pipe.specs.Transfer.{form_of, packets_of};
 
-use arrayvec::ArrayVec;
 use psd_base::act::Answer;
+use psd_base::buffer::Buffer;
 use psd_base::packet::{BLOCK_SIZE, PACKET_SIZE, Packet};
 use psd_base::setup::Setup;
 use std::marker::Model;
@@ -31,7 +31,7 @@ pub(crate) enum Stage {
 pub(crate) struct Transfer {
     setup: Setup,
     stage: Stage,
-    bytes: ArrayVec<u8, BLOCK_SIZE>,
+    bytes: Buffer,
 }
 
 impl Model for Transfer {
@@ -42,9 +42,9 @@ impl Model for Transfer {
     ghost use Rattle.control_pipe.specs.TransferFields.{progress_in, IsSound};
     ghost use Rattle.psd_base.specs.declared.packet.TheConstants.{PACKET_SIZE};
 
-    ghost view = { λ transfer. progress_in PACKET_SIZE transfer.stage transfer.setup transfer.bytes.items };
+    ghost view = { λ transfer. progress_in PACKET_SIZE transfer.stage transfer.setup transfer.bytes };
 
-    ghost invariant = { λ transfer. IsSound PACKET_SIZE PACKET_SIZE transfer.stage transfer.setup transfer.bytes.items };
+    ghost invariant = { λ transfer. IsSound PACKET_SIZE PACKET_SIZE transfer.stage transfer.setup transfer.bytes };
 }
 
 impl Transfer {
@@ -63,7 +63,7 @@ impl Transfer {
                 length: 0,
             },
             stage: Stage::Refusing,
-            bytes: ArrayVec::new(),
+            bytes: Buffer::new(),
         }
     }
 
@@ -101,7 +101,7 @@ impl Transfer {
             self.stage = Stage::DataOut { toggle: true };
         } else {
             let cut = cut_to(due, setup.length);
-            let _ = self.bytes.try_extend_from_slice(cut);
+            self.bytes.append(cut);
             self.stage = Stage::DataIn {
                 sent: 0,
                 count: packet_count(cut.len(), setup.length),
@@ -188,7 +188,7 @@ impl Transfer {
                 let count = self.bytes.len();
                 let asked = self.setup.length as usize;
                 if count < asked && count + packet.len() <= asked {
-                    let _ = self.bytes.try_extend_from_slice(packet);
+                    self.bytes.append(packet);
                     self.stage = Stage::DataOut { toggle: !toggle };
                     *answer = Answer::Ack;
                 } else {

@@ -131,6 +131,13 @@ module _ (keyboard : KeyboardValue) (past : List KeyboardEntry) (stands : Keyboa
   same_made Repeated entered ready = stands.last
   same_made Nothing entered ready = stands.last
 
+  pub same_made_apart : (given : Given) → shows_span given ≡ false → made_keys given keyboard.last ≡ made_by given (shown past) (last_made past)
+  same_made_apart Again none = stands.last
+  same_made_apart Due none = refl
+  same_made_apart (Next change) none = absurd (false≢true (sym none))
+  same_made_apart Repeated none = absurd (false≢true (sym none))
+  same_made_apart Nothing none = stands.last
+
   made_form : (given : Given) → is_entered past ≡ true → (shows_span given ≡ true → is_due past ≡ false) → IsPassedOn given → IsKeySet (made_by given (shown past) (last_made past))
   made_form Again entered ready passed = stands.form
   made_form Due entered ready passed = no_keys-form

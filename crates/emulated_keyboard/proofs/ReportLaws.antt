@@ -1,27 +1,31 @@
 -- Reports, place by place.
-use Rattle.std.proofs.Common.{◌≡◌, ℕ, suc, ◌+◌, ◌-◌, ◌≤◌, Bool, List, [], ◌∷◌, ◌++◌, sym, ap, ◌∙◌, arith, append_assoc}
-use Rattle.std.proofs.lemmas.List.{append-nil}
+use Rattle.std.proofs.Common.{◌≡◌, ℕ, suc, ◌+◌, ◌-◌, ◌<◌, ◌≤◌, Bool, List, [], ◌∷◌, ◌++◌, length, take, drop, slice_set, sym, ap, ◌∙◌, arith, append_assoc}
+use Rattle.std.proofs.lemmas.List.{take_more_set, drop-set-lt, drop-drop, take-append-drop}
 use Rattle.psd_base.specs.KeySet.{keys_from}
 use Rattle.emulated_keyboard.specs.Report.{filled, key_report}
 
-module _ (keys : List Bool) (report : List ℕ) (m n next : ℕ) where
-  pub filled_some : (usage : ℕ) → m ≡ suc n → key_report keys ≡ report ++ filled m (keys_from keys next (165 - next))
+-- one place more shows a key
+module _ (keys : List Bool) (report : List ℕ) (place m n usage : ℕ) (is : m ≡ suc n) where
+  pub shown_next : (next : ℕ) → place < length report → key_report keys ≡ take place report ++ filled m (keys_from keys next (165 - next))
       → keys_from keys next (165 - next) ≡ usage ∷ keys_from keys (usage + 1) (164 - usage) → usage ≤ 164
-      → key_report keys ≡ (report ++ usage ∷ []) ++ filled n (keys_from keys (usage + 1) (165 - (usage + 1)))
+      → key_report keys ≡ take (place + 1) (slice_set report place usage) ++ filled n (keys_from keys (usage + 1) (165 - (usage + 1)))
   unfolding filled
-  filled_some usage is so_far some high =
+  shown_next next within so_far some high =
       let left : 165 - (usage + 1) ≡ 164 - usage = omega arith in
-      so_far ∙ ap (λ (places : List ℕ). report ++ places) (ap (λ (usages : List ℕ). filled m usages) some ∙ ap (λ (places : ℕ). filled places (usage ∷ keys_from keys (usage + 1) (164 - usage))) is)
-      ∙ rw left (sym (append_assoc report (usage ∷ []) (filled n (keys_from keys (usage + 1) (164 - usage)))))
+      so_far ∙ ap (λ (usages : List ℕ). take place report ++ filled m usages) some
+      ∙ ap (λ (places : ℕ). take place report ++ filled places (usage ∷ keys_from keys (usage + 1) (164 - usage))) is
+      ∙ rw left
+      (sym (append_assoc (take place report) (usage ∷ []) (filled n (keys_from keys (usage + 1) (164 - usage))))
+      ∙ ap (λ (shown : List ℕ). shown ++ filled n (keys_from keys (usage + 1) (164 - usage))) (sym (take_more_set report place usage within)))
 
-  pub filled_none : m ≡ suc n → key_report keys ≡ report ++ filled m (keys_from keys next (165 - next)) → keys_from keys next (165 - next) ≡ []
-      → key_report keys ≡ (report ++ 0 ∷ []) ++ filled n (keys_from keys next (165 - next))
+  pub empty_next : drop place report ≡ filled m [] → drop (place + 1) (slice_set report place usage) ≡ filled n []
   unfolding filled
-  filled_none is so_far none =
-      so_far ∙ ap (λ (places : List ℕ). report ++ places) (ap (λ (usages : List ℕ). filled m usages) none ∙ ap (λ (places : ℕ). filled places []) is)
-      ∙ sym (append_assoc report (0 ∷ []) (filled n [])) ∙ ap (λ (usages : List ℕ). (report ++ 0 ∷ []) ++ filled n usages) (sym none)
+  empty_next empty =
+      drop-set-lt (place + 1) report place usage (omega arith)
+      ∙ sym (drop-drop 1 place report)
+      ∙ ap (λ (places : List ℕ). drop 1 places) (empty ∙ ap (λ (places : ℕ). filled places []) is)
 
-pub filled_all : (keys : List Bool) (report : List ℕ) (m next : ℕ) → m ≡ 0 → key_report keys ≡ report ++ filled m (keys_from keys next (165 - next)) → report ≡ key_report keys
+pub shown_whole : (keys : List Bool) (report : List ℕ) (place m : ℕ) (usages : List ℕ) → m ≡ 0 → key_report keys ≡ take place report ++ filled m usages → drop place report ≡ filled m [] → report ≡ key_report keys
 unfolding filled
-filled_all keys report m next is so_far =
-    sym (so_far ∙ ap (λ (places : ℕ). report ++ filled places (keys_from keys next (165 - next))) is ∙ append-nil report)
+shown_whole keys report place m usages none so_far empty =
+    sym (so_far ∙ ap (λ (n : ℕ). take place report ++ filled n usages) none ∙ ap (λ (places : List ℕ). take place report ++ places) (sym (empty ∙ ap (λ (n : ℕ). filled n []) none)) ∙ take-append-drop place report)

@@ -177,7 +177,7 @@ impl Keyboard {
             → result ≡ read_answer request past }
     {
         match request {
-            HidRequest::GetInput => Some(report_of(&self.last)),
+            HidRequest::GetInput => Some(Packet::from_slice(&report_of(&self.last))),
             HidRequest::GetOutput => Some(Packet::from_slice(&[self.lamps])),
             HidRequest::GetIdle => self.settings.answer(request),
             HidRequest::GetProtocol => self.settings.answer(request),
@@ -190,7 +190,26 @@ impl Keyboard {
     /// Takes a poll at this tick while the port is selected, whose answer the host acknowledges or not. The first of
     /// these that applies is answered: the report that wasn't acknowledged, with the toggle of this moment; the report
     /// with nothing pressed, where a release is due; the report after the latch's next change; the last report again,
-    /// where the idle rate says so; NAK.
+    /// where the idle rate says so; NAK. The answer is written over what was there.
+    pub fn poll_into(&mut self, tick: Tick, acked: bool, latch: &mut KeyLatch, answer: &mut Answer)
+        requires { self.old.entered ≡ true }
+        ensures entered { self.new.entered ≡ self.old.entered }
+        ensures stands { (past : List KeyboardEntry) (keys : List KeyEntry) → KeyboardStands self.old past
+            → KeyLatchStands latch.old keys
+            → KeyboardStands self.new (Polled tick (given_at (next_change keys) tick past) acked ∷ past) }
+        ensures answer { (past : List KeyboardEntry) (keys : List KeyEntry) → KeyboardStands self.old past
+            → KeyLatchStands latch.old keys
+            → answer.new ≡ answer_of (given_at (next_change keys) tick past) (toggle_of past)
+            (last_made (Polled tick (given_at (next_change keys) tick past) acked ∷ past)) }
+        ensures latch { (past : List KeyboardEntry) (keys : List KeyEntry) → KeyboardStands self.old past
+            → KeyLatchStands latch.old keys
+            → KeyLatchStands latch.new (latch_after (given_at (next_change keys) tick past) keys) }
+    {
+        let given = self.case_at(tick, latch);
+        self.give(given, acked, tick, answer);
+    }
+
+    /// Takes a poll as `poll_into` does, and gives the answer.
     pub fn poll(&mut self, tick: Tick, acked: bool, latch: &mut KeyLatch) -> Answer
         requires { self.old.entered ≡ true }
         ensures entered { self.new.entered ≡ self.old.entered }
@@ -205,11 +224,30 @@ impl Keyboard {
             → KeyLatchStands latch.old keys
             → KeyLatchStands latch.new (latch_after (given_at (next_change keys) tick past) keys) }
     {
-        let given = self.case_at(tick, latch);
-        self.give(given, acked, tick)
+        let mut answer = Answer::Silent;
+        self.poll_into(tick, acked, latch, &mut answer);
+        answer
     }
 
-    /// Takes a poll while the port isn't selected: the report that wasn't acknowledged, the release that is due, or NAK.
+    /// Takes a poll while the port isn't selected: the report that wasn't acknowledged, the release that is due, or NAK,
+    /// written over what was in the answer's place. A poll with nothing due makes no call that has room for a report.
+    #[inline(always)]
+    pub fn poll_apart_into(&mut self, acked: bool, answer: &mut Answer)
+        requires { self.old.entered ≡ false }
+        ensures entered { self.new.entered ≡ self.old.entered }
+        ensures stands { (past : List KeyboardEntry) → KeyboardStands self.old past
+            → KeyboardStands self.new (PolledApart (given_apart past) acked ∷ past) }
+        ensures answer { (past : List KeyboardEntry) → KeyboardStands self.old past
+            → answer.new ≡ answer_of (given_apart past) (toggle_of past)
+            (last_made (PolledApart (given_apart past) acked ∷ past)) }
+    {
+        match self.case_apart() {
+            Given::Nothing => *answer = Answer::Nak,
+            given => self.give(given, acked, self.idle_since, answer),
+        }
+    }
+
+    /// Takes a poll as `poll_apart_into` does, and gives the answer.
     pub fn poll_apart(&mut self, acked: bool) -> Answer
         requires { self.old.entered ≡ false }
         ensures entered { self.new.entered ≡ self.old.entered }
@@ -219,9 +257,9 @@ impl Keyboard {
             → result ≡ answer_of (given_apart past) (toggle_of past)
             (last_made (PolledApart (given_apart past) acked ∷ past)) }
     {
-        let given = self.case_apart();
-        let since = self.idle_since;
-        self.give(given, acked, since)
+        let mut answer = Answer::Silent;
+        self.poll_apart_into(acked, &mut answer);
+        answer
     }
 
     /// The case of a poll while the port is selected. A change that it names is taken from the latch.
@@ -279,37 +317,43 @@ impl Keyboard {
     }
 
     /// Answers a poll by its case. Once the report is acknowledged, the idle time counts from this tick.
-    fn give(&mut self, given: Given, acked: bool, tick: Tick) -> Answer
+    #[inline(never)]
+    fn give(&mut self, given: Given, acked: bool, tick: Tick, answer: &mut Answer)
         requires { IsPassedOn given }
         ensures step { self.new ≡ given_step given acked tick self.old }
-        ensures answer { result ≡ answer_of given self.old.toggle (made_keys given self.old.last) }
+        ensures answer { answer.new ≡ answer_of given self.old.toggle (made_keys given self.old.last) }
     {
         match given {
             Given::Again => {}
             Given::Due => self.last = KeySet::new(),
             Given::Next(change) => show(&mut self.last, change),
             Given::Repeated => {}
-            Given::Nothing => return Answer::Nak,
+            Given::Nothing => {
+                *answer = Answer::Nak;
+                return;
+            }
         }
         self.left = self.left && given.is_again();
-        self.send(acked, tick)
+        self.send(acked, tick, answer);
     }
 
     /// Sends the report that was made last.
-    fn send(&mut self, acked: bool, tick: Tick) -> Answer
+    fn send(&mut self, acked: bool, tick: Tick, answer: &mut Answer)
         ensures step { self.new ≡ sent_step acked tick self.old }
-        ensures answer { result ≡ Answer.Data self.old.toggle (key_report self.old.last) }
+        ensures answer { answer.new ≡ Answer.Data self.old.toggle (key_report self.old.last) }
     {
-        let answer = Answer::Data {
+        *answer = Answer::Data {
             toggle: self.toggle,
-            bytes: report_of(&self.last),
+            bytes: Packet::new(),
         };
+        if let Answer::Data { bytes, .. } = answer {
+            bytes.append(&report_of(&self.last));
+        }
         self.unread = !acked;
         if acked {
             self.toggle = !self.toggle;
             self.idle_since = tick;
         }
-        answer
     }
 }
 

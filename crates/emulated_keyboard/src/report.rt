@@ -3,32 +3,33 @@ ghost use Rattle.std.specs.Prelude.{◌≡◌, ◌≤◌, if◌then◌else◌};
 ghost use Rattle.psd_base.specs.KeySet.{has_key};
 ghost use Rattle.emulated_keyboard.specs.Report.{modifiers_of, key_report};
 
-use psd_base::{KeySet, Packet};
+use psd_base::KeySet;
 
 /// The first ordinary key, and the last one.
 const FIRST: u8 = 0x04;
 
 const LAST: u8 = 0xa4;
 
-/// The ordinary keys that a report shows.
-const PLACES: usize = 6;
+/// The bytes of a report, and the first of those that show an ordinary key.
+const SIZE: usize = 8;
+
+const FIRST_PLACE: usize = 2;
 
 /// The report that shows these keys: a bit for each modifier, a zero byte, and six places for the ordinary keys,
 /// ascending, filled up with zeros.
-pub fn report_of(keys: &KeySet) -> Packet
+pub fn report_of(keys: &KeySet) -> [u8; SIZE]
     ensures { result ≡ key_report keys.now }
 {
-    let mut report = Packet::new();
-    report.push(modifiers_of(keys));
-    report.push(0);
+    let mut report = [0; SIZE];
+    report[0] = modifiers_of(keys);
     let mut next = FIRST;
-    'places: for _ in 0..PLACES {
+    'places: for place in FIRST_PLACE..SIZE {
         match keys.least_between(next, LAST) {
             Some(usage) => {
-                report.push(usage);
+                report[place] = usage;
                 next = usage + 1;
             }
-            None => report.push(0),
+            None => break,
         }
     }
     report

@@ -151,6 +151,13 @@ module _ (mouse : MouseValue) (past : List MouseEntry) (stands : MouseStands mou
       (ap (λ (buttons : List Bool). held_with buttons change) (shown_buttons entered (ready refl)) ∙ sym (held_from-append no_buttons (begun past) change))
   same_made Nothing entered ready = stands.last
 
+  pub same_made_apart : (given : Given) → shows_span given ≡ false → made_report given mouse.rest mouse.last ≡ made_by given (begun past) (rest past) (last_made past)
+  same_made_apart Again none = stands.last
+  same_made_apart Due none = refl
+  same_made_apart Rest none = absurd (false≢true (sym none))
+  same_made_apart (Next change) none = absurd (false≢true (sym none))
+  same_made_apart Nothing none = stands.last
+
   made_form : (given : Given) → is_entered past ≡ true → (shows_span given ≡ true → is_due past ≡ false) → length (made_by given (begun past) (rest past) (last_made past)).buttons ≡ 5
   made_form Again entered ready = stands.one_each
   made_form Due entered ready = length-no_buttons

@@ -150,7 +150,10 @@ impl Mouse {
             → result ≡ read_answer request past }
     {
         match request {
-            HidRequest::GetInput => Some(bytes_of(&self.last.buttons, Piece::STILL)),
+            HidRequest::GetInput => Some(Packet::from_slice(&bytes_of(
+                &self.last.buttons,
+                Piece::STILL,
+            ))),
             HidRequest::GetOutput => None,
             HidRequest::GetIdle => self.settings.answer(request),
             HidRequest::GetProtocol => self.settings.answer(request),
@@ -171,7 +174,26 @@ impl Mouse {
     /// Takes a poll while the port is selected, whose answer the host acknowledges or not. The first of these that
     /// applies is answered: the report that wasn't acknowledged, with the toggle of this moment; the report with no
     /// button down, where a release is due; the next piece of the motion that was begun; the latch's next change, or its
-    /// first piece; NAK.
+    /// first piece; NAK. The answer is written over what was there.
+    pub fn poll_into(&mut self, acked: bool, latch: &mut PointerLatch, answer: &mut Answer)
+        requires { self.old.entered ≡ true }
+        ensures entered { self.new.entered ≡ self.old.entered }
+        ensures stands { (past : List MouseEntry) (entries : List PointerEntry) → MouseStands self.old past
+            → PointerLatchStands latch.old entries
+            → MouseStands self.new (Polled (given_at (next_change entries) past) acked ∷ past) }
+        ensures answer { (past : List MouseEntry) (entries : List PointerEntry) → MouseStands self.old past
+            → PointerLatchStands latch.old entries
+            → answer.new ≡ answer_of (given_at (next_change entries) past) (toggle_of past)
+            (last_made (Polled (given_at (next_change entries) past) acked ∷ past)) }
+        ensures latch { (past : List MouseEntry) (entries : List PointerEntry) → MouseStands self.old past
+            → PointerLatchStands latch.old entries
+            → PointerLatchStands latch.new (latch_after (given_at (next_change entries) past) entries) }
+    {
+        let given = self.case_at(latch);
+        self.give(given, acked, answer);
+    }
+
+    /// Takes a poll as `poll_into` does, and gives the answer.
     pub fn poll(&mut self, acked: bool, latch: &mut PointerLatch) -> Answer
         requires { self.old.entered ≡ true }
         ensures entered { self.new.entered ≡ self.old.entered }
@@ -186,11 +208,30 @@ impl Mouse {
             → PointerLatchStands latch.old entries
             → PointerLatchStands latch.new (latch_after (given_at (next_change entries) past) entries) }
     {
-        let given = self.case_at(latch);
-        self.give(given, acked)
+        let mut answer = Answer::Silent;
+        self.poll_into(acked, latch, &mut answer);
+        answer
     }
 
-    /// Takes a poll while the port isn't selected: the report that wasn't acknowledged, the release that is due, or NAK.
+    /// Takes a poll while the port isn't selected: the report that wasn't acknowledged, the release that is due, or NAK,
+    /// written over what was in the answer's place. A poll with nothing due makes no call that has room for a report.
+    #[inline(always)]
+    pub fn poll_apart_into(&mut self, acked: bool, answer: &mut Answer)
+        requires { self.old.entered ≡ false }
+        ensures entered { self.new.entered ≡ self.old.entered }
+        ensures stands { (past : List MouseEntry) → MouseStands self.old past
+            → MouseStands self.new (PolledApart (given_apart past) acked ∷ past) }
+        ensures answer { (past : List MouseEntry) → MouseStands self.old past
+            → answer.new ≡ answer_of (given_apart past) (toggle_of past)
+            (last_made (PolledApart (given_apart past) acked ∷ past)) }
+    {
+        match self.case_apart() {
+            Given::Nothing => *answer = Answer::Nak,
+            given => self.give(given, acked, answer),
+        }
+    }
+
+    /// Takes a poll as `poll_apart_into` does, and gives the answer.
     pub fn poll_apart(&mut self, acked: bool) -> Answer
         requires { self.old.entered ≡ false }
         ensures entered { self.new.entered ≡ self.old.entered }
@@ -200,8 +241,9 @@ impl Mouse {
             → result ≡ answer_of (given_apart past) (toggle_of past)
             (last_made (PolledApart (given_apart past) acked ∷ past)) }
     {
-        let given = self.case_apart();
-        self.give(given, acked)
+        let mut answer = Answer::Silent;
+        self.poll_apart_into(acked, &mut answer);
+        answer
     }
 
     /// The case of a poll while the port is selected. A change that it names is taken from the latch.
@@ -247,9 +289,10 @@ impl Mouse {
     }
 
     /// Answers a poll by its case.
-    fn give(&mut self, given: Given, acked: bool) -> Answer
+    #[inline(never)]
+    fn give(&mut self, given: Given, acked: bool, answer: &mut Answer)
         ensures step { self.new ≡ given_step given acked self.old }
-        ensures answer { result ≡ answer_of given self.old.toggle (made_report given self.old.rest self.old.last) }
+        ensures answer { answer.new ≡ answer_of given self.old.toggle (made_report given self.old.rest self.old.last) }
     {
         match given {
             Given::Again => {}
@@ -259,10 +302,13 @@ impl Mouse {
                 show(&mut self.last.buttons, change);
                 self.report_motion(motion_of(change));
             }
-            Given::Nothing => return Answer::Nak,
+            Given::Nothing => {
+                *answer = Answer::Nak;
+                return;
+            }
         }
         self.left = self.left && given.is_again();
-        self.send(acked)
+        self.send(acked, answer);
     }
 
     /// Makes a report of the first piece of a motion.
@@ -274,19 +320,21 @@ impl Mouse {
     }
 
     /// Sends the report that was made last.
-    fn send(&mut self, acked: bool) -> Answer
+    fn send(&mut self, acked: bool, answer: &mut Answer)
         ensures step { self.new ≡ sent_step acked self.old }
-        ensures answer { result ≡ Answer.Data self.old.toggle (report_bytes self.old.last) }
+        ensures answer { answer.new ≡ Answer.Data self.old.toggle (report_bytes self.old.last) }
     {
-        let answer = Answer::Data {
+        *answer = Answer::Data {
             toggle: self.toggle,
-            bytes: self.last.bytes(),
+            bytes: Packet::new(),
         };
+        if let Answer::Data { bytes, .. } = answer {
+            bytes.append(&self.last.bytes());
+        }
         self.unread = !acked;
         if acked {
             self.toggle = !self.toggle;
         }
-        answer
     }
 }
 

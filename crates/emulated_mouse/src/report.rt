@@ -4,7 +4,9 @@ ghost use Rattle.emulated_mouse.specs.Report.{byte_of, report, released, report_
 
 use crate::buttons::Buttons;
 use crate::motion::Piece;
-use psd_base::Packet;
+
+/// The bytes of a report.
+const SIZE: usize = 4;
 
 /// What one report says: the buttons that are down, and how far the mouse moved.
 #[derive(Drop)]
@@ -25,7 +27,7 @@ impl Report {
     }
 
     /// Its four bytes: a bit for each button, X, Y and the wheel, as signed bytes.
-    pub fn bytes(&self) -> Packet
+    pub fn bytes(&self) -> [u8; SIZE]
         ensures { result ≡ report_bytes self.now }
     {
         bytes_of(&self.buttons, self.moved)
@@ -33,15 +35,15 @@ impl Report {
 }
 
 /// The bytes of a report with these buttons and this motion.
-pub fn bytes_of(buttons: &Buttons, moved: Piece) -> Packet
+pub fn bytes_of(buttons: &Buttons, moved: Piece) -> [u8; SIZE]
     ensures { result ≡ report_bytes (report buttons.now moved) }
 {
-    let mut bytes = Packet::new();
-    bytes.push(buttons.bits());
-    bytes.push(byte_of(moved.x));
-    bytes.push(byte_of(moved.y));
-    bytes.push(byte_of(moved.wheel));
-    bytes
+    [
+        buttons.bits(),
+        byte_of(moved.x),
+        byte_of(moved.y),
+        byte_of(moved.wheel),
+    ]
 }
 
 /// A count as a byte in two's complement.

@@ -1,5 +1,5 @@
 -- While a port isn't selected, its latches are as if nothing had ever been shown.
-use Rattle.std.proofs.Common.{◌≡◌, ℕ, Bool, true, false, List, [], ◌∷◌, refl, sym, ◌∙◌}
+use Rattle.std.proofs.Common.{◌≡◌, Bool, true, false, List, [], ◌∷◌, refl, sym, ◌∙◌}
 use Rattle.std.proofs.lemmas.Bool.{false≢true}
 use Rattle.input_latch.specs.KeyHistory as keys
 use Rattle.input_latch.specs.KeyHistory.{KeyEntry}

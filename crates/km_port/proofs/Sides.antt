@@ -1,6 +1,5 @@
 -- What an act at the control endpoint leaves of what the keyboard, the mouse and the latches were told.
-use Rattle.std.proofs.Common.{◌≡◌, ℕ, Bool, true, false, nat_eq, List, [], ◌∷◌, Option, Some, None, refl, sym, subst, ap, ◌∙◌, cond}
-use Rattle.std.specs.Prelude.{◌==◌}
+use Rattle.std.proofs.Common.{◌≡◌, ℕ, Bool, true, false, nat_eq, List, ◌∷◌, Option, Some, None, refl, ap, ◌∙◌, cond}
 use Rattle.psd_base.specs.declared.act.Act.{Act}
 use Rattle.psd_base.specs.declared.act.Act.TheVariants as act
 use Rattle.psd_base.specs.declared.setup.Setup.{Setup}
@@ -11,8 +10,6 @@ use Rattle.control_pipe.specs.Transfer.{Transfer, received}
 use Rattle.control_pipe.specs.declared.hid_request.HidRequest.{HidRequest}
 use Rattle.control_pipe.specs.declared.reaction.Effect.{Effect}
 use Rattle.control_pipe.specs.declared.reaction.Effect.TheVariants as effect
-use Rattle.input_latch.specs.KeyHistory.{KeyEntry}
-use Rattle.input_latch.specs.PointerHistory.{PointerEntry}
 use Rattle.emulated_keyboard.specs.ClassRequests.{with_request}
 use Rattle.emulated_keyboard.specs.Delivery as typed
 use Rattle.emulated_keyboard.specs.KeyboardHistory as keyboard

@@ -1,6 +1,6 @@
 -- A switch with one port: what it answers to the port's own acts, found from the port's view alone. A view is newest first,
 -- a transcript is oldest first.
-use Rattle.std.specs.Prelude.{ℕ, Bool, ◌==◌, List, [], ◌∷◌, ◌++◌, if◌then◌else◌}
+use Rattle.std.specs.Prelude.{ℕ, ◌==◌, List, [], ◌∷◌, ◌++◌, if◌then◌else◌}
 use Rattle.psd_base.specs.declared.act.Act.{Act}
 use Rattle.psd_base.specs.declared.act.Side.{Side}
 use Rattle.psd_base.specs.declared.act.Side.TheVariants.{Km, Ua}

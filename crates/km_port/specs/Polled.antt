@@ -1,5 +1,5 @@
 -- At which interrupt endpoint a computer polls, and what its keyboard or mouse answers (USB 2.0, 5.7.3).
-use Rattle.std.specs.Prelude.{ℕ, Bool, true, false, ◌&&◌, ◌==◌, List, ◌∷◌, if◌then◌else◌}
+use Rattle.std.specs.Prelude.{ℕ, Bool, ◌&&◌, ◌==◌, List, ◌∷◌, if◌then◌else◌}
 use Rattle.psd_base.specs.declared.act.Act.{Act}
 use Rattle.psd_base.specs.declared.act.Act.TheVariants as act
 use Rattle.psd_base.specs.declared.act.Answer.{Answer}

@@ -1,13 +1,12 @@
 -- The token's connector of a computer, by the view of its port.
 use Rattle.std.specs.Prelude.{ℕ, List, [], ◌∷◌, Option}
 use Rattle.psd_base.specs.declared.act.Act.{Act}
-use Rattle.psd_base.specs.declared.act.Side.{Side}
 use Rattle.psd_base.specs.declared.act.Side.TheVariants.{Km, Ua}
 use Rattle.psd_base.specs.declared.console.Job.{Job}
 use Rattle.auth_router.specs.declared.up.Up.{Up}
 use Rattle.auth_router.specs.Entries.{Done}
 use Rattle.auth_router.specs.Bridge.{BridgePast, IsDown, IsUp, bridge_made, after_act}
-use Rattle.km_port.specs.Concerns.{TokenShape, TokenNews, Comes, Goes, Finishes, Concern, Own, Wakes, Darkens, Selects, Leaves, Keys, Pointer, Token, Item}
+use Rattle.km_port.specs.Concerns.{TokenShape, TokenNews, Comes, Goes, Finishes, Concern, Own, Token, Item}
 
 -- what a bridge is told of a token, in a life of this number
 abbrev pub up_of : ℕ → TokenShape → Up

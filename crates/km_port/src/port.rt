@@ -223,11 +223,11 @@ fn poll_owned(
         Polled::Halted => *answer = Answer::Stall,
         Polled::Keyboard(acked) => {
             let keyboard = &mut pipe.function_mut().keyboard;
-            *answer = keyboard.poll(tick, acked, &mut console.state.keys);
+            keyboard.poll_into(tick, acked, &mut console.state.keys, answer);
         }
         Polled::Mouse(acked) => {
             let mouse = &mut pipe.function_mut().mouse;
-            *answer = mouse.poll(acked, &mut console.state.pointer);
+            mouse.poll_into(acked, &mut console.state.pointer, answer);
         }
     }
 }
@@ -245,7 +245,7 @@ fn poll_apart(pipe: &mut Pipe<KmFunction>, tick: Tick, act: &Act, answer: &mut A
     match polled_by(pipe, act) {
         Polled::Nothing => *answer = Answer::Silent,
         Polled::Halted => *answer = Answer::Stall,
-        Polled::Keyboard(acked) => *answer = pipe.function_mut().keyboard.poll_apart(acked),
-        Polled::Mouse(acked) => *answer = pipe.function_mut().mouse.poll_apart(acked),
+        Polled::Keyboard(acked) => pipe.function_mut().keyboard.poll_apart_into(acked, answer),
+        Polled::Mouse(acked) => pipe.function_mut().mouse.poll_apart_into(acked, answer),
     }
 }

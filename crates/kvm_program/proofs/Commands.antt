@@ -4,6 +4,7 @@ use Rattle.psd_base.specs.Desk.{IsAppendedPart, OnlyReads, OnlyWrites, Told}
 use Rattle.psd_base.specs.History.{onto}
 use Rattle.km_port.proofs.DeliveryLaw.{delivery-all}
 use Rattle.switch_core.specs.View.{view}
+use Rattle.switch_core.proofs.Owning.{heard_by_owner_alone, life_is_routed_once}
 use Rattle.switch_core.proofs.Stamping.{life_is_one_ports, lives_are_apart}
 use Rattle.kvm_program.specs.Owned.{Owns}
 use Rattle.psd_base.specs.declared.event.TheConstants.{EVENTS_MAX}
@@ -70,7 +71,12 @@ NothingLeft-same before after same left = record {
 
 -- the token's ownership holds of whatever events
 owns : (rules : RuleSet) (events : List Seen) → Owns rules events
-owns rules events = record { apart = lives_are_apart rules (onto events []); one_port = life_is_one_ports rules (onto events []) }
+owns rules events = record {
+  apart = lives_are_apart rules (onto events []);
+  one_port = life_is_one_ports rules (onto events []);
+  once = life_is_routed_once rules (onto events []);
+  heard = heard_by_owner_alone rules (onto events []);
+}
 
 -- serving stopped
 pub Serves-stopped : (stop : Stop) (run : Run) (before after : Told)

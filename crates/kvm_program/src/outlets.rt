@@ -17,7 +17,7 @@ ghost use Rattle.kvm_program.specs.Transcript.{text_at};
 use crate::tally::Tally;
 use port_transcript::{PORT_LINE_SIZE, Text, write_act_line, write_console_line, write_log_line};
 use psd_base::act::Answer;
-use psd_base::console::{NOTES_MAX, Note, Notes, Order, Orders};
+use psd_base::console::{NOTES_MAX, Note, Notes, Order};
 use psd_base::desk::Desk;
 use psd_base::event::{Event, Tick, What};
 use psd_base::outlet::Outlet;
@@ -67,6 +67,9 @@ pub fn write_turn<D: Desk>(
     ensures only { OnlyWritesTexts (D.told desk.old) (D.told desk.new) }
 {
     write_line(desk, event, &turn.answer, text, tally)?;
+    if turn.orders.is_empty() && turn.notes.is_empty() {
+        return Ok(());
+    }
     write_console(desk, event.tick, turn, text, tally)
 }
 
@@ -93,7 +96,6 @@ fn write_line<D: Desk>(
 {
     match &event.what {
         What::Port(port, side, act) => {
-            text.clear();
             write_act_line(event.tick, *side, act, answer, text);
             write_text(desk, *port, text, tally)
         }
@@ -144,8 +146,9 @@ fn write_text<D: Desk>(
     Ok(())
 }
 
-/// Writes the orders of a turn to the console, and then its notes to the log.
-#[inline(always)]
+/// Writes the orders of a turn to the console, and then its notes to the log. It is a call of its own, since few turns have
+/// some.
+#[inline(never)]
 fn write_console<D: Desk>(
     desk: &mut D,
     tick: Tick,
@@ -168,32 +171,12 @@ fn write_console<D: Desk>(
     ensures few_refused { OnOk result (tally.new.refused ≤ tally.old.refused + NOTES_MAX) }
     ensures only { OnlyWritesConsole (D.told desk.old) (D.told desk.new) }
 {
-    write_orders(desk, tick, &turn.orders, text)?;
+    write_orders(desk, tick, turn.orders.as_slice(), text)?;
     write_notes(desk, tick, &turn.notes, text, tally)
 }
 
-/// Writes the orders of an event to the console, if there are some.
-#[inline(always)]
-fn write_orders<D: Desk>(
-    desk: &mut D,
-    tick: Tick,
-    orders: &Orders,
-    text: &mut Text,
-) -> Result<(), Stop>
-    ensures wrote { WroteTo Outlet.Console result (D.told desk.old) (D.told desk.new)
-        (orders_text tick orders.now.items) }
-    ensures stop { IfErr result (IsTextFault (D.told desk.old) (D.told desk.new)) }
-    ensures only { OnlyWrites Outlet.Console (D.told desk.old) (D.told desk.new) }
-{
-    if orders.is_empty() {
-        return Ok(());
-    }
-    write_each(desk, tick, orders.as_slice(), text)
-}
-
 /// Writes orders to the console, each by a write of its own: the text has no room for all of them.
-#[inline(never)]
-fn write_each<D: Desk>(
+fn write_orders<D: Desk>(
     desk: &mut D,
     tick: Tick,
     orders: &[Order],
@@ -229,7 +212,6 @@ fn write_order<D: Desk>(
 }
 
 /// Writes the notes of an event to the log, if there are some.
-#[inline(always)]
 fn write_notes<D: Desk>(
     desk: &mut D,
     tick: Tick,
@@ -257,9 +239,7 @@ fn write_notes<D: Desk>(
     write_all(desk, tick, notes.as_slice(), text, tally)
 }
 
-/// Writes notes to the log, all by one write: the text has room for them. It is a call of its own, since few events have
-/// some.
-#[inline(never)]
+/// Writes notes to the log, all by one write: the text has room for them.
 fn write_all<D: Desk>(
     desk: &mut D,
     tick: Tick,

@@ -140,8 +140,9 @@ fn obey<D: Desk>(alloc: Global, words: &Words, desk: &mut D) -> Result<Summary, 
 /// `replay` judges the rules, serves the events of the capture and of the button script in the order of their ticks, and
 /// writes each computer's transcript, what the peripherals at the console are told, and the log. Whatever is replayed, a
 /// computer's transcript is what a switch with one port answers to that computer's own acts, the results of the self-test,
-/// the moments at which it is selected, and what is typed and moved while it is; a replay that stops early writes a part of
-/// it, from its front. After a read of the capture or the script that failed, that part, and those of console and log, are
+/// the moments at which it is selected, what is typed and moved while it is, and what it hears of the token while that is
+/// routed to it; a replay that stops early writes a part of it, from its front. Jobs of one life of the token are one port's,
+/// and no life is routed to two. After a read of the capture or the script that failed, that part, and those of console and log, are
 /// exactly their texts over the shortest part of the events that holds every whole record, or line with its line feed, among
 /// the bytes that were taken of that input. `check` judges the rules alone.
 pub fn kvm<D: Desk>(alloc: Global, words: &Words, desk: &mut D) -> Result<Summary, Stop>

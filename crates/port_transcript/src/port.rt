@@ -5,17 +5,19 @@
 //! | SIDE | `KM`, `UA` |
 //! | ACT | `RESET`; `SETUP ADDRESS BYTES`; `OUT ADDRESS ENDPOINT TOGGLE BYTES`; `IN ADDRESS ENDPOINT ACKED` |
 //! | ANSWER | `ACK`; `NAK`; `STALL`; `SILENT`; `DATA TOGGLE BYTES` |
-ghost use Rattle.std.specs.Prelude.{◌≡◌, ◌+◌, ◌≤◌, length, ◌++◌, codes};
+ghost use Rattle.std.specs.Prelude.{◌≡◌, ◌+◌, ◌≤◌, length, take, ◌++◌, codes};
+ghost use Rattle.std.specs.Fmt.{decimal};
 ghost use Rattle.arrayvec.specs.ArrayVec.{array_vec_len};
 ghost use Rattle.port_transcript.specs.PortLine.{act_text, answer_text, line_text, side_text};
 
-use crate::text::{
-    TEXT_SIZE, Text, append_byte, append_bytes, append_digits, append_tick, append_word,
-};
+use crate::text::{Text, put_byte, put_bytes, put_digits, put_word};
 use psd_base::{Act, Answer, Line, Side, Tick};
 
 /// The most bytes that a line of a port has, its line feed included.
 pub const PORT_LINE_SIZE: usize = 296;
+
+/// The most bytes of a line behind its tick.
+const BEHIND_TICK_SIZE: usize = 286;
 
 /// The bytes of a side's name and of a blank on each side.
 const SIDE_SIZE: usize = 4;
@@ -23,29 +25,26 @@ const SIDE_SIZE: usize = 4;
 /// The most bytes of an act, those of an OUT of `PACKET_SIZE` bytes.
 const ACT_SIZE: usize = 142;
 
+/// The most bytes of an address and an endpoint.
+const ENDPOINT_SIZE: usize = 7;
+
 /// The most bytes from the arrow to the line feed, where the answer is `PACKET_SIZE` bytes of data.
 const REPLY_SIZE: usize = 140;
 
-/// Appends the line of an act and its answer. There is room for the longest, of `PORT_LINE_SIZE` bytes. The tick is in
-/// milliseconds.
-#[tactic(auto, unfolding(crate::specs::PortLine::line_text))]
+/// Writes the line of an act and its answer in the place of what the text held. The tick is in milliseconds.
+#[inline(always)]
 pub fn write_act_line(tick: Tick, side: Side, act: &Act, answer: &Answer, text: &mut Text)
-    requires { array_vec_len text.old + PORT_LINE_SIZE ≤ TEXT_SIZE }
-    ensures items { text.new.items ≡ text.old.items
-        ++ line_text (record { tick = tick; side = side; act = act.now; answer = answer.now }) }
-    ensures len { array_vec_len text.new ≤ array_vec_len text.old + PORT_LINE_SIZE }
+    ensures items { text.new.items
+        ≡ line_text (record { tick = tick; side = side; act = act.now; answer = answer.now }) }
+    ensures len { array_vec_len text.new ≤ PORT_LINE_SIZE }
 {
-    append_tick(text, tick);
-    append_word(text, side_between_blanks(side));
-    append_act(text, act);
-    append_reply(text, answer);
+    text.set_to_line(tick, side, act, answer);
 }
 
-/// Appends the line. There is room for the longest, of `PORT_LINE_SIZE` bytes.
+/// Writes the line in the place of what the text held.
 pub fn write_port_line(line: &Line, text: &mut Text)
-    requires { array_vec_len text.old + PORT_LINE_SIZE ≤ TEXT_SIZE }
-    ensures items { text.new.items ≡ text.old.items ++ line_text line.now }
-    ensures len { array_vec_len text.new ≤ array_vec_len text.old + PORT_LINE_SIZE }
+    ensures items { text.new.items ≡ line_text line.now }
+    ensures len { array_vec_len text.new ≤ PORT_LINE_SIZE }
 {
     write_act_line(line.tick, line.side, &line.act, &line.answer, text);
 }
@@ -60,30 +59,57 @@ pub fn port_line(line: &Line) -> Text
     text
 }
 
-/// The side's name, with a blank on each side.
+/// Writes a line from behind its tick to its end, and answers the place behind it.
+#[inline(always)]
+pub(crate) fn put_behind_tick(
+    into: &mut [u8],
+    at: usize,
+    side: Side,
+    act: &Act,
+    answer: &Answer,
+) -> usize
+    requires { at + BEHIND_TICK_SIZE ≤ length into.old }
+    ensures items { take result into.new ≡ take at into.old ++ codes " " ++ side_text side ++ codes " "
+        ++ act_text act.now ++ codes " -> " ++ answer_text answer.now ++ codes "\n" }
+    ensures end { result ≤ at + BEHIND_TICK_SIZE }
+    ensures len { length into.new ≡ length into.old }
+{
+    let at = put_side(into, at, side);
+    let at = put_act(into, at, act);
+    put_reply(into, at, answer)
+}
+
+/// Writes the side's name, with a blank on each side, and answers the place behind it.
+#[inline(always)]
 #[tactic(auto, unfolding(crate::specs::PortLine::side_text))]
-fn side_between_blanks(side: Side) -> &'static [u8; SIDE_SIZE]
-    ensures name { result.now ≡ codes " " ++ side_text side ++ codes " " }
+fn put_side(into: &mut [u8], at: usize, side: Side) -> usize
+    requires { at + SIDE_SIZE ≤ length into.old }
+    ensures items { take result into.new ≡ take at into.old ++ codes " " ++ side_text side ++ codes " " }
+    ensures end { result ≡ at + SIDE_SIZE }
+    ensures len { length into.new ≡ length into.old }
 {
     match side {
-        Side::Km => b" KM ",
-        Side::Ua => b" UA ",
+        Side::Km => put_word(into, at, b" KM "),
+        Side::Ua => put_word(into, at, b" UA "),
     }
 }
 
+/// Writes the act, and answers the place behind it.
+#[inline(always)]
 #[tactic(auto, unfolding(crate::specs::PortLine::act_text))]
-fn append_act(text: &mut Text, act: &Act)
-    requires { array_vec_len text.old + ACT_SIZE ≤ TEXT_SIZE }
-    ensures items { text.new.items ≡ text.old.items ++ act_text act.now }
-    ensures len { array_vec_len text.new ≤ array_vec_len text.old + ACT_SIZE }
+fn put_act(into: &mut [u8], at: usize, act: &Act) -> usize
+    requires { at + ACT_SIZE ≤ length into.old }
+    ensures items { take result into.new ≡ take at into.old ++ act_text act.now }
+    ensures end { result ≤ at + ACT_SIZE }
+    ensures len { length into.new ≡ length into.old }
 {
     match act {
-        Act::Reset => append_word(text, b"RESET"),
+        Act::Reset => put_word(into, at, b"RESET"),
         Act::Setup { address, setup } => {
-            append_word(text, b"SETUP ");
-            append_byte(text, *address);
-            append_word(text, b" ");
-            append_digits(text, &setup.bytes());
+            let at = put_word(into, at, b"SETUP ");
+            let at = put_byte(into, at, *address);
+            let at = put_word(into, at, b" ");
+            put_digits(into, at, &setup.bytes())
         }
         Act::Out {
             address,
@@ -91,50 +117,59 @@ fn append_act(text: &mut Text, act: &Act)
             toggle,
             bytes,
         } => {
-            append_word(text, b"OUT ");
-            append_byte(text, *address);
-            append_word(text, b" ");
-            append_byte(text, *endpoint);
-            append_word(text, if *toggle { b" 1 " } else { b" 0 " });
-            append_bytes(text, bytes);
+            let at = put_word(into, at, b"OUT ");
+            let at = put_endpoint(into, at, *address, *endpoint);
+            let at = put_word(into, at, if *toggle { b" 1 " } else { b" 0 " });
+            put_bytes(into, at, bytes)
         }
         Act::In {
             address,
             endpoint,
             acked,
         } => {
-            append_word(text, b"IN ");
-            append_byte(text, *address);
-            append_word(text, b" ");
-            append_byte(text, *endpoint);
-            append_word(text, if *acked { b" 1" } else { b" 0" });
+            let at = put_word(into, at, b"IN ");
+            let at = put_endpoint(into, at, *address, *endpoint);
+            put_word(into, at, if *acked { b" 1" } else { b" 0" })
         }
     }
 }
 
-/// Appends the arrow, the answer and the line feed.
+/// Writes an address and an endpoint with a blank between them, and answers the place behind them.
+#[inline(always)]
+fn put_endpoint(into: &mut [u8], at: usize, address: u8, endpoint: u8) -> usize
+    requires { at + ENDPOINT_SIZE ≤ length into.old }
+    ensures items { take result into.new ≡ take at into.old ++ decimal address ++ codes " " ++ decimal endpoint }
+    ensures end { result ≤ at + ENDPOINT_SIZE }
+    ensures len { length into.new ≡ length into.old }
+{
+    let at = put_byte(into, at, address);
+    let at = put_word(into, at, b" ");
+    put_byte(into, at, endpoint)
+}
+
+/// Writes the arrow, the answer and the line feed, and answers the place behind them.
+#[inline(always)]
 #[tactic(auto, unfolding(crate::specs::PortLine::answer_text))]
-fn append_reply(text: &mut Text, answer: &Answer)
-    requires { array_vec_len text.old + REPLY_SIZE ≤ TEXT_SIZE }
-    ensures items { text.new.items ≡ text.old.items ++ codes " -> " ++ answer_text answer.now ++ codes "\n" }
-    ensures len { array_vec_len text.new ≤ array_vec_len text.old + REPLY_SIZE }
+fn put_reply(into: &mut [u8], at: usize, answer: &Answer) -> usize
+    requires { at + REPLY_SIZE ≤ length into.old }
+    ensures items { take result into.new ≡ take at into.old ++ codes " -> " ++ answer_text answer.now ++ codes "\n" }
+    ensures end { result ≤ at + REPLY_SIZE }
+    ensures len { length into.new ≡ length into.old }
 {
     match answer {
-        Answer::Ack => append_word(text, b" -> ACK\n"),
-        Answer::Nak => append_word(text, b" -> NAK\n"),
-        Answer::Stall => append_word(text, b" -> STALL\n"),
-        Answer::Silent => append_word(text, b" -> SILENT\n"),
+        Answer::Ack => put_word(into, at, b" -> ACK\n"),
+        Answer::Nak => put_word(into, at, b" -> NAK\n"),
+        Answer::Stall => put_word(into, at, b" -> STALL\n"),
+        Answer::Silent => put_word(into, at, b" -> SILENT\n"),
         Answer::Data { toggle, bytes } => {
-            append_word(
-                text,
-                if *toggle {
-                    b" -> DATA 1 "
-                } else {
-                    b" -> DATA 0 "
-                },
-            );
-            append_bytes(text, bytes);
-            append_word(text, b"\n");
+            let data = if *toggle {
+                b" -> DATA 1 "
+            } else {
+                b" -> DATA 0 "
+            };
+            let at = put_word(into, at, data);
+            let at = put_bytes(into, at, bytes);
+            put_word(into, at, b"\n")
         }
     }
 }

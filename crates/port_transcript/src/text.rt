@@ -3,10 +3,13 @@ ghost use Rattle.std.specs.Prelude.{◌≡◌, ◌+◌, ◌*◌, ◌≤◌, [], 
 ghost use Rattle.std.specs.Fmt.{decimal};
 ghost use Rattle.arrayvec.specs.ArrayVec.{array_vec_len};
 ghost use Rattle.hex.specs.Hex.{encode_lower};
+ghost use Rattle.port_transcript.specs.PortLine.{line_text};
 ghost use Rattle.port_transcript.specs.Text.{bytes_text};
 
+use crate::port::{PORT_LINE_SIZE, put_behind_tick};
 use itoa::{Buffer, Integer};
-use psd_base::{Bytes, Tick};
+use psd_base::place::write_at;
+use psd_base::{Act, Answer, Bytes, Side, Tick};
 use std::marker::Model;
 
 /// How many bytes a text can hold.
@@ -69,6 +72,18 @@ impl Text {
         self.len = 0;
     }
 
+    /// Makes it the line of an act and its answer, in the place of what it held. Its end is stored once.
+    #[inline(always)]
+    #[tactic(auto, unfolding(crate::specs::PortLine::line_text))]
+    pub(crate) fn set_to_line(&mut self, tick: Tick, side: Side, act: &Act, answer: &Answer)
+        ensures items { self.new.items
+            ≡ line_text (record { tick = tick; side = side; act = act.now; answer = answer.now }) }
+        ensures len { array_vec_len self.new ≤ PORT_LINE_SIZE }
+    {
+        let at = put_tick(&mut self.bytes, 0, &mut self.tick, tick);
+        self.len = put_behind_tick(&mut self.bytes, at, side, act, answer);
+    }
+
     /// How many bytes it has.
     pub fn len(&self) -> usize
         ensures value { result ≡ array_vec_len self.now }
@@ -118,7 +133,7 @@ impl TickDigits {
         let mut buffer = Buffer::new();
         let text = buffer.format(tick).as_bytes();
         let mut digits = [0; TICK_SIZE];
-        copy_to(&mut digits, 0, text);
+        write_at(&mut digits, 0, text);
         TickDigits {
             tick,
             digits,
@@ -145,16 +160,6 @@ impl TickDigits {
     }
 }
 
-/// Writes bytes over those from a place on.
-#[inline(always)]
-fn copy_to(into: &mut [u8], start: usize, bytes: &[u8])
-    requires { start + length bytes.now ≤ length into.old }
-    ensures written { take (start + length bytes.now) into.new ≡ take start into.old ++ bytes.now }
-    ensures len { length into.new ≡ length into.old }
-{
-    into[start..start + bytes.len()].copy_from_slice(bytes);
-}
-
 /// Appends bytes. There is room for them.
 #[inline(always)]
 pub fn append(text: &mut Text, bytes: &[u8])
@@ -162,32 +167,38 @@ pub fn append(text: &mut Text, bytes: &[u8])
     ensures items { text.new.items ≡ text.old.items ++ bytes.now }
     ensures len { array_vec_len text.new ≡ array_vec_len text.old + length bytes.now }
 {
-    copy_to(&mut text.bytes, text.len, bytes);
+    write_at(&mut text.bytes, text.len, bytes);
     text.len += bytes.len();
 }
 
-/// Writes a word over the bytes from a place on.
+/// Writes a word over the bytes from a place on, and answers the place behind it. The word's size is known where it is
+/// written: so it costs a store or two, and less than as a slice. There is room for it.
 #[inline(always)]
-fn write_word<const SIZE: usize>(into: &mut [u8], start: usize, word: &[u8; SIZE])
-    requires { start + SIZE ≤ length into.old }
-    ensures written { take (start + SIZE) into.new ≡ take start into.old ++ word.now }
+pub(crate) fn put_word<const SIZE: usize>(into: &mut [u8], at: usize, word: &[u8; SIZE]) -> usize
+    requires { at + SIZE ≤ length into.old }
+    ensures items { take result into.new ≡ take at into.old ++ word.now }
+    ensures end { result ≡ at + SIZE }
     ensures len { length into.new ≡ length into.old }
 {
     'bytes: for i in 0..SIZE {
-        into[start + i] = word[i];
+        into[at + i] = word[i];
     }
+    at + SIZE
 }
 
-/// Appends a word, whose size is known where it is written: so it costs a store or two, and less than as a slice. There is
-/// room for it.
-#[inline(always)]
-pub(crate) fn append_word<const SIZE: usize>(text: &mut Text, word: &[u8; SIZE])
-    requires { array_vec_len text.old + SIZE ≤ TEXT_SIZE }
-    ensures items { text.new.items ≡ text.old.items ++ word.now }
-    ensures len { array_vec_len text.new ≡ array_vec_len text.old + SIZE }
+/// Writes a number in decimal, and answers the place behind it. There is room for the longest of its type. It is a call
+/// of its own, since most numbers of a port's line have one digit and don't come here.
+#[inline(never)]
+fn put_number<I: Integer>(into: &mut [u8], at: usize, number: I) -> usize
+    requires { at + I.MAX_STR_LEN ≤ length into.old }
+    ensures items { take result into.new ≡ take at into.old ++ I.text number }
+    ensures end { result ≤ at + I.MAX_STR_LEN }
+    ensures len { length into.new ≡ length into.old }
 {
-    write_word(&mut text.bytes, text.len, word);
-    text.len += SIZE;
+    let mut buffer = Buffer::new();
+    let digits = buffer.format(number).as_bytes();
+    write_at(into, at, digits);
+    at + digits.len()
 }
 
 /// Appends a number in decimal. There is room for the longest of its type.
@@ -196,50 +207,61 @@ pub fn append_number<I: Integer>(text: &mut Text, number: I)
     ensures items { text.new.items ≡ text.old.items ++ I.text number }
     ensures len { array_vec_len text.new ≤ array_vec_len text.old + I.MAX_STR_LEN }
 {
-    let mut buffer = Buffer::new();
-    append(text, buffer.format(number).as_bytes());
+    text.len = put_number(&mut text.bytes, text.len, number);
 }
 
-/// Appends a number of one byte in decimal. There is room for three digits. Most numbers have one, which is written
-/// directly.
+/// Writes a number of one byte in decimal, and answers the place behind it. There is room for three digits. Most
+/// numbers have one, which is written directly.
 #[inline(always)]
-#[tactic(auto, using(std::proofs::lemmas::Fmt::decimal_digit))]
-pub(crate) fn append_byte(text: &mut Text, number: u8)
-    requires { array_vec_len text.old + 3 ≤ TEXT_SIZE }
-    ensures items { text.new.items ≡ text.old.items ++ decimal number }
-    ensures len { array_vec_len text.new ≤ array_vec_len text.old + 3 }
+#[tactic(auto, using(std::proofs::lemmas::Fmt::decimal_digit, std::proofs::lemmas::List::take_more_set))]
+pub(crate) fn put_byte(into: &mut [u8], at: usize, number: u8) -> usize
+    requires { at + 3 ≤ length into.old }
+    ensures items { take result into.new ≡ take at into.old ++ decimal number }
+    ensures end { result ≤ at + 3 }
+    ensures len { length into.new ≡ length into.old }
 {
     if number < 10 {
-        append(text, &[b'0' + number]);
+        into[at] = b'0' + number;
+        at + 1
     } else {
-        append_number(text, number);
+        put_number(into, at, number)
     }
 }
 
-/// Appends a tick in decimal. There is room for the longest. All bytes of the kept digits are written, since a copy
-/// of a fixed size costs least; the text ends behind the digits.
+/// Writes a tick in decimal, and answers the place behind it. There is room for the longest. All bytes of the kept
+/// digits are written, since a copy of a fixed size costs least; the place is behind the digits.
 #[inline(always)]
+fn put_tick(into: &mut [u8], at: usize, kept: &mut TickDigits, tick: Tick) -> usize
+    requires { at + TICK_SIZE ≤ length into.old }
+    ensures items { take result into.new ≡ take at into.old ++ decimal tick }
+    ensures end { result ≤ at + TICK_SIZE }
+    ensures len { length into.new ≡ length into.old }
+{
+    kept.turn_to(tick);
+    write_at(into, at, &kept.digits);
+    at + kept.len
+}
+
+/// Appends a tick in decimal. There is room for the longest.
 pub(crate) fn append_tick(text: &mut Text, tick: Tick)
     requires { array_vec_len text.old + TICK_SIZE ≤ TEXT_SIZE }
     ensures items { text.new.items ≡ text.old.items ++ decimal tick }
     ensures len { array_vec_len text.new ≤ array_vec_len text.old + TICK_SIZE }
 {
-    text.tick.turn_to(tick);
-    let kept = &text.tick;
-    copy_to(&mut text.bytes, text.len, &kept.digits);
-    text.len += kept.len;
+    text.len = put_tick(&mut text.bytes, text.len, &mut text.tick, tick);
 }
 
-/// Appends the hexadecimal digits of bytes, two for each. There is room for them.
-pub(crate) fn append_digits(text: &mut Text, bytes: &[u8])
-    requires { array_vec_len text.old + 2 * length bytes.now ≤ TEXT_SIZE }
-    ensures items { text.new.items ≡ text.old.items ++ encode_lower bytes.now }
-    ensures len { array_vec_len text.new ≡ array_vec_len text.old + 2 * length bytes.now }
+/// Writes the hexadecimal digits of bytes, two for each, and answers the place behind them. There is room for them.
+#[inline(always)]
+pub(crate) fn put_digits(into: &mut [u8], at: usize, bytes: &[u8]) -> usize
+    requires { at + 2 * length bytes.now ≤ length into.old }
+    ensures items { take result into.new ≡ take at into.old ++ encode_lower bytes.now }
+    ensures end { result ≡ at + 2 * length bytes.now }
+    ensures len { length into.new ≡ length into.old }
 {
-    let start = text.len;
-    let end = start + 2 * bytes.len();
-    write_digits(&mut text.bytes[start..end], bytes);
-    text.len = end;
+    let end = at + 2 * bytes.len();
+    write_digits(&mut into[at..end], bytes);
+    end
 }
 
 /// Writes the hexadecimal digits of bytes.
@@ -256,6 +278,32 @@ fn write_digits(into: &mut [u8], bytes: &[u8])
     }
 }
 
+/// Appends the hexadecimal digits of bytes, two for each. There is room for them.
+pub(crate) fn append_digits(text: &mut Text, bytes: &[u8])
+    requires { array_vec_len text.old + 2 * length bytes.now ≤ TEXT_SIZE }
+    ensures items { text.new.items ≡ text.old.items ++ encode_lower bytes.now }
+    ensures len { array_vec_len text.new ≡ array_vec_len text.old + 2 * length bytes.now }
+{
+    text.len = put_digits(&mut text.bytes, text.len, bytes);
+}
+
+/// Writes bytes in hexadecimal, or `-` where there are none, and answers the place behind. There is room for the most.
+#[inline(always)]
+pub(crate) fn put_bytes<const SIZE: usize>(into: &mut [u8], at: usize, bytes: &Bytes<SIZE>) -> usize
+    requires some { 1 ≤ SIZE }
+    requires room { at + 2 * SIZE ≤ length into.old }
+    ensures items { take result into.new ≡ take at into.old ++ bytes_text bytes.now }
+    ensures end { result ≤ at + 2 * SIZE }
+    ensures len { length into.new ≡ length into.old }
+{
+    let bytes = bytes.as_slice();
+    if bytes.is_empty() {
+        put_word(into, at, b"-")
+    } else {
+        put_digits(into, at, bytes)
+    }
+}
+
 /// Appends bytes in hexadecimal, or `-` where there are none. There is room for the most.
 pub(crate) fn append_bytes<const SIZE: usize>(text: &mut Text, bytes: &Bytes<SIZE>)
     requires some { 1 ≤ SIZE }
@@ -263,10 +311,5 @@ pub(crate) fn append_bytes<const SIZE: usize>(text: &mut Text, bytes: &Bytes<SIZ
     ensures items { text.new.items ≡ text.old.items ++ bytes_text bytes.now }
     ensures len { array_vec_len text.new ≤ array_vec_len text.old + 2 * SIZE }
 {
-    let bytes = bytes.as_slice();
-    if bytes.is_empty() {
-        append(text, b"-");
-    } else {
-        append_digits(text, bytes);
-    }
+    text.len = put_bytes(&mut text.bytes, text.len, bytes);
 }

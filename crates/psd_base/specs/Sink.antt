@@ -1,18 +1,18 @@
 -- Where the bytes of an outlet go in the current folder.
-use Rattle.std.specs.Prelude.{ℕ, ◌≡◌, ◌<◌, ◌⊎◌, List, [], ◌++◌, length, vec_capacity}
+use Rattle.std.specs.Prelude.{ℕ, ◌≡◌, ◌<◌, ◌⊎◌, List, [], ◌++◌, length}
 use Rattle.psd_base.specs.declared.sink.Sink.{Sink}
 use Rattle.psd_base.specs.declared.sink.Sink.TheVariants.{Unused, Open, Failed}
 
 -- the bytes that wait to be written out
 abbrev pub waiting_in : {F : Type 0} → Sink F → List ℕ
 waiting_in (Unused waiting) = []
-waiting_in (Open buffered) = buffered.waiting.items
+waiting_in (Open buffered) = buffered.waiting.bytes
 waiting_in Failed = []
 
 -- how many bytes can wait
 abbrev pub room_in : {F : Type 0} → Sink F → ℕ
-room_in (Unused waiting) = vec_capacity waiting
-room_in (Open buffered) = vec_capacity buffered.waiting
+room_in (Unused waiting) = waiting.room
+room_in (Open buffered) = buffered.waiting.room
 room_in Failed = 0
 
 abbrev pub IsOpen : {F : Type 0} → Sink F → Type 0
@@ -22,7 +22,7 @@ IsOpen Failed = ⊥
 
 -- nothing was written, and nothing waits
 abbrev pub IsFresh : {F : Type 0} → Sink F → Type 0
-IsFresh (Unused waiting) = waiting.items ≡ []
+IsFresh (Unused waiting) = waiting.bytes ≡ []
 IsFresh (Open buffered) = ⊥
 IsFresh Failed = ⊥
 

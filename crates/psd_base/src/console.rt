@@ -1,4 +1,5 @@
 //! What the switch orders from the console's peripherals, and what it notes of itself.
+pub use crate::orders::{ORDERS_MAX, Orders};
 use crate::packet::{Block, Packet};
 use crate::port::PortId;
 use crate::setup::Setup;
@@ -80,12 +81,6 @@ impl Default for Order {
         }
     }
 }
-
-/// How many orders one event gives at most.
-pub const ORDERS_MAX: usize = 8;
-
-/// The orders of one event, in their order.
-pub type Orders = ArrayVec<Order, ORDERS_MAX>;
 
 /// What the log says.
 #[derive(Clone, Copy, Debug, Default, PartialEq, Eq)]

@@ -1,8 +1,8 @@
 //! The desk of the current folder, with standard output and standard error.
 //!
 //! No contract can say what a file gives or takes, so this desk tells nothing of bytes: here the proofs end.
-ghost use Rattle.std.specs.Prelude.{◌≡◌, IfErr};
-ghost use Rattle.psd_base.specs.Desk.{silent};
+ghost use Rattle.std.specs.Prelude.{◌≡◌, IfErr, OnErr, OnOk};
+ghost use Rattle.psd_base.specs.Desk.{OnlyWrites, WriteFailed, silent};
 ghost use Rattle.psd_base.specs.FaultCounts.{no_faults};
 
 use crate::desk::{Desk, DeskFailed};
@@ -12,6 +12,7 @@ use crate::places::{INPUTS, OUTLETS, input_place, outlet_place};
 use crate::port::{MAX_PORTS, PortId};
 use crate::sink::Sink;
 use crate::source::Source;
+use crate::waiting::Waiting;
 use std::alloc::AllocError;
 use std::array;
 use std::rt::Files;
@@ -41,7 +42,7 @@ impl<R: Files + Print + Eprint + AllocGlobal + Drop> FileDesk<R> {
         FileDesk {
             rt,
             sources: [Source::Unused, Source::Unused, Source::Unused],
-            sinks: array::from_fn(|_| Sink::Unused(Vec::new(alloc))),
+            sinks: array::from_fn(|_| Sink::Unused(Waiting::without_room(alloc))),
             faults: FaultCounts::new(),
         }
     }
@@ -82,6 +83,25 @@ impl<R: Files + Print + Eprint + AllocGlobal + Drop> FileDesk<R> {
         self.write_out(Outlet::Faults)
     }
 
+    /// Writes bytes to an outlet that isn't open, or for which too many bytes wait. It is a call of its own, since few writes
+    /// come to it and it has room for an error.
+    #[cold]
+    #[inline(never)]
+    fn write_further(&mut self, to: Outlet, bytes: &[u8]) -> Result<(), DeskFailed>
+        ensures ok { OnOk result (self.new.faults ≡ self.old.faults) }
+        ensures failed { OnErr result (WriteFailed to (⟦<FileDesk<R> as Desk>⟧.told self.old)
+            (⟦<FileDesk<R> as Desk>⟧.told self.new)) }
+        ensures only { OnlyWrites to (⟦<FileDesk<R> as Desk>⟧.told self.old) (⟦<FileDesk<R> as Desk>⟧.told self.new) }
+    {
+        match self.sinks[outlet_place(&to)].write(&self.rt, &to, bytes) {
+            Ok(()) => Ok(()),
+            Err(_) => {
+                self.faults.count_write(&to);
+                Err(DeskFailed)
+            }
+        }
+    }
+
     fn write_out(&mut self, outlet: Outlet) -> Result<(), Outlet>
         ensures { IfErr result (λ failed. failed ≡ outlet) }
     {
@@ -108,12 +128,9 @@ impl<R: Files + Print + Eprint + AllocGlobal + Drop> Desk for FileDesk<R> {
     }
 
     fn write(&mut self, to: Outlet, bytes: &[u8]) -> Result<(), DeskFailed> {
-        match self.sinks[outlet_place(&to)].write(&self.rt, &to, bytes) {
-            Ok(()) => Ok(()),
-            Err(_) => {
-                self.faults.count_write(&to);
-                Err(DeskFailed)
-            }
+        if self.sinks[outlet_place(&to)].hold(bytes) {
+            return Ok(());
         }
+        self.write_further(to, bytes)
     }
 }

@@ -2,6 +2,7 @@
 #![tactic(auto)]
 
 pub mod act;
+pub mod buffer;
 mod calls;
 pub mod console;
 pub mod desk;
@@ -12,8 +13,10 @@ pub mod key_set;
 pub mod line;
 pub mod memory_desk;
 pub mod number;
+pub mod orders;
 pub mod outlet;
 pub mod packet;
+pub mod place;
 mod places;
 pub mod port;
 pub mod sample;
@@ -24,9 +27,11 @@ pub mod stop;
 mod store;
 pub mod summary;
 mod tape;
+mod waiting;
 pub mod words;
 
 pub use act::{Act, Answer, Side};
+pub use buffer::Buffer;
 pub use console::{
     CHECKS, Job, JobKind, NOTES_MAX, Note, Notes, ORDERS_MAX, Order, Orders, Panel, Plug, Reason,
     RuleName,

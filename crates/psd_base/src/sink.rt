@@ -1,15 +1,16 @@
 //! Where the bytes of an outlet go in the current folder, and the buffer in which they wait.
-ghost use Rattle.std.specs.Prelude.{◌≡◌, ◌+◌, ◌≤◌, [], ◌++◌, length, if◌then◌else◌, IsTrue, Ok, IsErr, IfOk, OnOk, OnErr, vec_capacity};
+ghost use Rattle.std.specs.Prelude.{◌≡◌, ◌+◌, ◌≤◌, [], ◌++◌, length, IsTrue, false, Ok, IsErr, OnOk, OnErr};
 
 use crate::outlet::Outlet;
 use crate::port::{MAX_PORTS, PortId};
+use crate::waiting::Waiting;
 use std::alloc::{AllocError, Global};
 use std::io::{self, ErrorKind, Write};
 use std::rt::Files;
 use std::{fs, mem};
 
 /// How many bytes of an outlet wait at most before they are written out.
-pub const BUFFER_SIZE: usize = 65_536;
+pub const BUFFER_SIZE: usize = 32_768;
 
 /// The file of each port's transcript, port 1 first.
 const PORT_FILES: [&str; MAX_PORTS as usize] = [
@@ -49,28 +50,16 @@ impl<F: Write> Target<F> {
 #[derive(Drop)]
 pub struct Buffered<F> {
     target: Target<F>,
-    waiting: Vec<u8>,
+    waiting: Waiting,
 }
 
 impl<F: Write> Buffered<F> {
-    /// Lets these bytes wait, and answers whether there was room for them. It takes no memory.
-    fn hold(&mut self, bytes: &[u8]) -> bool
-        ensures fits { length self.old.waiting.items + length bytes.now ≤ vec_capacity self.old.waiting
-            → IsTrue result }
-        ensures waiting { self.new.waiting.items
-            ≡ (if result then self.old.waiting.items ++ bytes.now else self.old.waiting.items) }
-        ensures room { vec_capacity self.old.waiting ≤ vec_capacity self.new.waiting }
-    {
-        bytes.len() <= self.waiting.capacity() - self.waiting.len()
-            && self.waiting.extend_from_slice(bytes).is_ok()
-    }
-
     /// Writes out what waits.
     fn write_out<R: Print + Eprint>(&mut self, rt: &R) -> io::Result<()>
-        ensures empty { OnOk result (self.new.waiting.items ≡ []) }
-        ensures room { vec_capacity self.old.waiting ≤ vec_capacity self.new.waiting }
+        ensures empty { OnOk result (self.new.waiting.bytes ≡ []) }
+        ensures room { self.new.waiting.room ≡ self.old.waiting.room }
     {
-        if !self.waiting.is_empty() {
+        if !self.waiting.as_slice().is_empty() {
             self.target.write(rt, self.waiting.as_slice())?;
             self.waiting.clear();
         }
@@ -82,7 +71,7 @@ impl<F: Write> Buffered<F> {
 #[derive(Drop)]
 pub enum Sink<F> {
     /// Nothing was written yet. The buffer is that in which bytes will wait; without room in it each write goes out at once.
-    Unused(Vec<u8>),
+    Unused(Waiting),
     Open(Buffered<F>),
     /// A write failed, so that some bytes may be lost. Each further one fails too.
     Failed,
@@ -98,7 +87,7 @@ impl<F: Write + Drop> Sink<F> {
         ensures err { OnErr result (self.new ≡ self.old) }
     {
         if let Sink::Unused(waiting) = self {
-            *waiting = Vec::with_capacity(alloc, BUFFER_SIZE)?;
+            *waiting = Waiting::with_room(alloc, BUFFER_SIZE)?;
         }
         Ok(())
     }
@@ -116,12 +105,25 @@ impl<F: Write + Drop> Sink<F> {
         ensures failed { OnErr result (self.new ≡ Sink.Failed) }
         ensures stays_failed { self.old ≡ Sink.Failed → IsErr result }
     {
-        if let Sink::Open(buffered) = self {
-            if buffered.hold(bytes) {
-                return Ok(());
-            }
+        if self.hold(bytes) {
+            return Ok(());
         }
         self.write_further(rt, to, bytes)
+    }
+
+    /// Lets these bytes wait, and answers whether it could: the outlet is open, and there is room for them.
+    #[inline(always)]
+    pub fn hold(&mut self, bytes: &[u8]) -> bool
+        ensures held { IsTrue result → IsOpen self.new × (waiting_in self.new ≡ waiting_in self.old ++ bytes.now) }
+        ensures room { room_in self.new ≡ room_in self.old }
+        ensures refused { result ≡ false → self.new ≡ self.old }
+        ensures failed { self.old ≡ Sink.Failed → result ≡ false }
+    {
+        match self {
+            Sink::Unused(_) => false,
+            Sink::Open(buffered) => buffered.waiting.hold(bytes),
+            Sink::Failed => false,
+        }
     }
 
     /// Opens the outlet where it isn't yet, writes out what waits, and takes these bytes.
@@ -148,7 +150,7 @@ impl<F: Write + Drop> Sink<F> {
             Sink::Failed => return Err(io::Error::from(ErrorKind::Other)),
         };
         buffered.write_out(rt)?;
-        if !buffered.hold(bytes) {
+        if !buffered.waiting.hold(bytes) {
             buffered.target.write(rt, bytes)?;
         }
         *self = Sink::Open(buffered);

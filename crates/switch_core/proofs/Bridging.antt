@@ -1,14 +1,11 @@
 -- The bridge of the port to which the token is routed goes on as that port's view says, and those of all other ports are down.
-use Rattle.std.proofs.Common.{if◌then◌else◌, ◌≡◌, ℕ, ◌+◌, Bool, true, false, nat_eq, ◌&&◌, List, [], ◌∷◌, ◌++◌, Option, Some, None, option_map, refl, sym, subst, ap, ◌∙◌, cond, inl, inr}
+use Rattle.std.proofs.Common.{if◌then◌else◌, ◌≡◌, ℕ, ◌+◌, Bool, true, false, nat_eq, List, [], ◌∷◌, ◌++◌, Option, Some, None, option_map, refl, sym, subst, ap, ◌∙◌, cond, inl, inr}
 use Rattle.std.proofs.lemmas.Bool.Decides.{eqb_tells}
 use Rattle.std.proofs.lemmas.List.{append-nil, append_assoc}
 use Rattle.psd_base.specs.declared.act.Act.{Act}
-use Rattle.psd_base.specs.declared.act.Answer.TheVariants as answer
-use Rattle.psd_base.specs.declared.console.Job.{Job}
 use Rattle.psd_base.specs.declared.console.JobKind.{JobKind}
-use Rattle.psd_base.specs.declared.console.Order.{Order}
 use Rattle.psd_base.specs.declared.console.Plug.TheVariants.{Token}
-use Rattle.psd_base.specs.Event.{Doing, Finishes}
+use Rattle.psd_base.specs.Event.{Finishes}
 use Rattle.peripheral_filter.specs.declared.rule.RuleSet.{RuleSet}
 use Rattle.console_host.specs.declared.descriptors.Shape.{Shape}
 use Rattle.console_host.specs.Lives.{shape_of_life}
@@ -16,14 +13,13 @@ use Rattle.auth_router.specs.declared.up.Up.{Up}
 use Rattle.auth_router.specs.Entries.{BridgeItem, Done, Entry}
 use Rattle.auth_router.specs.Bridge.{BridgePast, IsDown, IsUp, after_act, after_done, answer_to, bridge_answer, bridge_made, entry_for, history_of, job_count, job_of_act}
 use Rattle.auth_router.specs.Slot.{lives}
-use Rattle.token_plug.specs.Acts.{acted_at, answer_at, is_routed_to, job_orders, jobs_at}
+use Rattle.token_plug.specs.Acts.{acted_at, answer_at, job_orders, jobs_at}
 use Rattle.token_plug.specs.Lives.{life_at, slot_calls}
 use Rattle.token_plug.specs.Moments.{Moment}
 use Rattle.token_plug.specs.Routing.{bridge_at, bridged, brought_up, routed_at, up_of}
 use Rattle.token_plug.proofs.Staying.{lives_stay, stays_routed}
 use Rattle.km_port.specs.Concerns.{TokenNews}
 use Rattle.km_port.specs.Concerns as news
-use Rattle.km_port.specs.TokenConnector.{with_done}
 use Rattle.switch_core.specs.Chosen.{is_at}
 use Rattle.switch_core.specs.Orders.{in_life}
 use Rattle.switch_core.specs.Token.{comes_with, done_news, given_over, moment_news, news_between}

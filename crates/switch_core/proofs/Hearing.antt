@@ -7,7 +7,7 @@ use Rattle.km_port.specs.TokenConnector.{bridge_past, with_news}
 use Rattle.auth_router.specs.Bridge.{BridgePast}
 use Rattle.switch_core.specs.PortsStand.{PortsStand}
 use Rattle.switch_core.specs.SeatStands.{SeatStands}
-use Rattle.switch_core.specs.SlotStands.{AllStand, SlotStands}
+use Rattle.switch_core.specs.SlotStands.{SlotStands}
 use Rattle.switch_core.specs.View.{heard}
 use Rattle.switch_core.specs.Views.{heard_by}
 use Rattle.switch_core.specs.declared.ports.Ports.{Ports}

@@ -1,5 +1,6 @@
 pub mod Bridging
 pub mod Choices
+pub mod Commuting
 mod Examples
 pub mod Fronts
 pub mod Handing

@@ -25,7 +25,7 @@ use Rattle.switch_core.specs.FrontHealth.{health_at}
 use Rattle.switch_core.specs.Orders.{act_orders, in_life, orders_at}
 use Rattle.switch_core.specs.Token.{moments_at, token_history, token_life, token_news, token_port}
 use Rattle.switch_core.specs.View.{heard, view}
-use Rattle.switch_core.specs.Ownership.{job_done, HearsAsOwner, HeardByOwnerAlone, MakesJob, JobsAreTheOwners, JobsOfOneLife, JobsOfTwoLives, JobsOfTwoSelections, NoJobsUnselected, moments_over}
+use Rattle.switch_core.specs.Ownership.{job_done, HearsAsOwner, HeardByOwnerAlone, MakesJob, JobsAreTheOwners, LifeIsRoutedOnce, JobsOfOneLife, JobsOfTwoLives, JobsOfTwoSelections, NoJobsUnselected, moments_over}
 use Rattle.switch_core.proofs.Handing.{same_number}
 use Rattle.switch_core.proofs.Selecting.{selected-alive}
 use Rattle.switch_core.proofs.TokenSelection.{selected-token_port}
@@ -40,7 +40,7 @@ at-port port (Some own) is = ap Some (eqb-true own port is)
 
 pub heard_by_owner_alone : HeardByOwnerAlone
 unfolding token_news
-heard_by_owner_alone rules port tick life number status bytes past grows =
+heard_by_owner_alone rules events port tick life number status bytes later past split grows =
     by (is_at port (token_port rules (front_of past))) (life == token_life rules (front_of past)) refl refl where
       view-done : (own same : Bool) → is_at port (token_port rules (front_of past)) ≡ own → (life == token_life rules (front_of past)) ≡ same
           → view rules port (job_done tick life number status bytes ∷ past)
@@ -140,6 +140,25 @@ history-over rules [] past = refl
 history-over rules (event ∷ events) past =
     ap (λ (moments : List Moment). moments_at rules event (events ++ past) ++ moments) (history-over rules events past)
     ∙ sym (append_assoc (moments_at rules event (events ++ past)) (moments_over rules events past) (token_history rules past))
+
+-- Two moments of one life at which the token is routed
+
+pub life_is_routed_once : LifeIsRoutedOnce
+life_is_routed_once rules events port other later between past split was is same =
+    let end : Some port ≡ Some other
+    = sym (routed-end rules port (moments_over rules (front_of between) (front_of past)) (token_history rules (front_of past)) was stays) ∙ now in
+    cc where
+      history : token_history rules (front_of (between ++ past))
+          ≡ moments_over rules (front_of between) (front_of past) ++ token_history rules (front_of past)
+      history = ap (token_history rules) (front-append between past) ∙ history-over rules (front_of between) (front_of past)
+
+      now : routed_at rules (moments_over rules (front_of between) (front_of past) ++ token_history rules (front_of past)) ≡ Some other
+      now = ap (routed_at rules) (sym history) ∙ is
+
+      stays : StaysRouted rules port (moments_over rules (front_of between) (front_of past)) (token_history rules (front_of past))
+      stays =
+          same-life rules port other (moments_over rules (front_of between) (front_of past)) (token_history rules (front_of past)) was now
+          (same ∙ ap (lives_at rules) history)
 
 -- Between two acts that make jobs
 

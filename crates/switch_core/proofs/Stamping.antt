@@ -14,7 +14,7 @@ use Rattle.switch_core.specs.FrontEvents.{FrontEvent, front_event, front_of}
 use Rattle.switch_core.specs.Independence.{is_job}
 use Rattle.switch_core.specs.Orders.{front_orders, in_life, orders_at}
 use Rattle.switch_core.specs.Ownership.{MakesJob, moments_over}
-use Rattle.switch_core.specs.Stamped.{StampedOrder, stamp, stamps, stamped_orders, powers_in, LifeIsOnePorts, LivesAreApart}
+use Rattle.switch_core.specs.Stamped.{StampedOrder, stamp, stamps, stamped_orders, powers_in, LifeIsOnePorts, LivesAreApart, MadeBy}
 use Rattle.switch_core.specs.Token.{token_history, token_life}
 use Rattle.switch_core.specs.View.{view}
 use Rattle.switch_core.proofs.Owning.{front-act, jobs_of_one_life, jobs_of_two_lives}
@@ -187,17 +187,8 @@ locate rules (event ∷ events) past before at job rest is =
 record TwoMade (rules : RuleSet) (past : List Seen) (between : List StampedOrder) (tick later : ℕ) (first second : Job) : Type 0 where
   pub port : ℕ
   pub other : ℕ
-  pub one : Seen
-  pub two : Seen
-  pub after : List Seen
-  pub mid : List Seen
-  pub before : List Seen
-  pub past_is : past ≡ after ++ two ∷ mid ++ one ∷ before
-  pub one_ticked : one.tick ≡ tick
-  pub two_ticked : two.tick ≡ later
-  pub made : MakesJob rules port first one before
-  pub again : MakesJob rules other second two (mid ++ one ∷ before)
-  pub between_is : between ≡ stamped_over rules mid (one ∷ before)
+  pub acts : MadeBy rules port other past tick later first second
+  pub between_is : between ≡ stamped_over rules acts.mid (acts.one ∷ acts.before)
 
 two-made : (rules : RuleSet) (past : List Seen) (before between after : List StampedOrder) (tick later : ℕ) (first second : Job)
     → stamped_orders rules past ≡ before ++ stamp tick (order.Job first) ∷ between ++ stamp later (order.Job second) ∷ after
@@ -214,43 +205,35 @@ two-made rules past before between after tick later first second is =
           record {
             port = one.port;
             other = two.port;
-            one = one.act;
-            two = two.act;
-            after = two.later;
-            mid = two.earlier;
-            before = one.earlier;
-            past_is = one.events_are ∙ ap (λ (events : List Seen). events ++ one.act ∷ one.earlier) two.events_are;
-            one_ticked = one.ticked;
-            two_ticked = two.ticked;
-            made = subst (λ (history : List Seen). MakesJob rules one.port first one.act history) plain one.made;
-            again = two.made;
+            acts = record {
+              one = one.act;
+              two = two.act;
+              after = two.later;
+              mid = two.earlier;
+              before = one.earlier;
+              past_is = one.events_are ∙ ap (λ (events : List Seen). events ++ one.act ∷ one.earlier) two.events_are;
+              one_ticked = one.ticked;
+              two_ticked = two.ticked;
+              made = subst (λ (history : List Seen). MakesJob rules one.port first one.act history) plain one.made;
+              again = two.made;
+            };
             between_is = two.before_is;
           }
 
 pub lives_are_apart : LivesAreApart
 lives_are_apart rules past before between after tick later first second is apart =
     let g = two-made rules past before between after tick later first second is in
-    cycle-in rules (moments_over rules (front_of g.mid) (front_of g.before)) (token_history rules (front_of g.before)) between
+    let acts = g.acts in
+    cycle-in rules (moments_over rules (front_of acts.mid) (front_of acts.before)) (token_history rules (front_of acts.before)) between
     (ap powers_in g.between_is
-    ∙ events-powers rules g.mid (g.one ∷ g.before)
-    ∙ ap (λ (front : List FrontEvent). switched_over rules (front_of g.mid) front) (front-act g.one g.before g.port g.made.side g.made.act g.made.happens))
-    (jobs_of_two_lives rules g.port g.other first second g.one g.two g.mid g.before g.made g.again apart)
+    ∙ events-powers rules acts.mid (acts.one ∷ acts.before)
+    ∙ ap (λ (front : List FrontEvent). switched_over rules (front_of acts.mid) front)
+    (front-act acts.one acts.before g.port acts.made.side acts.made.act acts.made.happens))
+    (jobs_of_two_lives rules g.port g.other first second acts.one acts.two acts.mid acts.before acts.made acts.again apart)
 
 pub life_is_one_ports : LifeIsOnePorts
 life_is_one_ports rules past before between after tick later first second is same =
     let g = two-made rules past before between after tick later first second is in
-    let one = jobs_of_one_life rules g.port g.other first second g.one g.two g.mid g.before g.made g.again same in
-    record {
-      port = g.port;
-      one = g.one;
-      two = g.two;
-      after = g.after;
-      mid = g.mid;
-      before = g.before;
-      past_is = g.past_is;
-      one_ticked = g.one_ticked;
-      two_ticked = g.two_ticked;
-      made = g.made;
-      again = subst (λ (port : ℕ). MakesJob rules port second g.two (g.mid ++ g.one ∷ g.before)) (sym one.0) g.again;
-      once = one.1;
-    }
+    let acts = g.acts in
+    let one = jobs_of_one_life rules g.port g.other first second acts.one acts.two acts.mid acts.before acts.made acts.again same in
+    record { port = g.port; other = g.other; acts = acts; same = one.0; once = one.1 }

@@ -11,7 +11,7 @@ use Rattle.psd_base.specs.declared.console.Plug.TheVariants.{Keyboard, Mouse, To
 use Rattle.psd_base.specs.Event.{Seen, Doing, TimePasses, PanelMoves, Attaches, Detaches, Replies, Reports, Finishes}
 use Rattle.peripheral_filter.specs.declared.rule.RuleSet.{RuleSet}
 use Rattle.fail_secure.specs.Health.{health_after}
-use Rattle.fail_secure.specs.HealthChange.{change_of, is_alive}
+use Rattle.fail_secure.specs.HealthChange.{change_of}
 use Rattle.fail_secure.specs.declared.health_change.HealthChange.{HealthChange}
 use Rattle.fail_secure.specs.declared.health_change.HealthChange.TheVariants as change
 use Rattle.auth_router.specs.Bridge.{BridgePast, bridge_answer}

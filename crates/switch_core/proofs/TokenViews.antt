@@ -1,21 +1,19 @@
 -- The bridges of all ports, by what happens.
-use Rattle.std.proofs.Common.{◌≡◌, ℕ, Bool, true, false, nat_eq, List, [], ◌∷◌, ◌++◌, Option, Some, None, refl, sym, subst, ap, ◌∙◌, cond}
+use Rattle.std.proofs.Common.{◌≡◌, ℕ, Bool, true, false, nat_eq, List, [], ◌∷◌, ◌++◌, Option, refl, sym, ap, ◌∙◌, cond}
 use Rattle.psd_base.specs.declared.act.Act.{Act}
 use Rattle.psd_base.specs.declared.act.Side.{Side}
 use Rattle.psd_base.specs.declared.act.Side.TheVariants.{Km, Ua}
 use Rattle.psd_base.specs.Event.{Seen, Doing, TimePasses, PanelMoves, Attaches, Detaches, Replies, Reports, Finishes, Happening, PortActs, AtFront}
 use Rattle.peripheral_filter.specs.declared.rule.RuleSet.{RuleSet}
-use Rattle.auth_router.specs.Bridge.{BridgePast, IsDown, after_act, after_done}
+use Rattle.auth_router.specs.Bridge.{BridgePast, after_act, after_done}
 use Rattle.token_plug.specs.Acts.{acted_at}
-use Rattle.token_plug.specs.Moments.{Moment}
 use Rattle.km_port.specs.Concerns.{TokenNews, Own, Item}
 use Rattle.km_port.specs.TokenConnector.{bridge_past}
-use Rattle.switch_core.specs.Chosen.{is_at}
 use Rattle.switch_core.specs.FrontEvents.{FrontEvent, front_event, front_of}
 use Rattle.switch_core.specs.Token.{done_news, moments_at, token_history, token_life, token_news, token_port}
 use Rattle.switch_core.specs.Bridges.{bridge_after, bridge_front, bridges_of}
-use Rattle.switch_core.specs.View.{front_concerns, heard, only_if, stamped, view}
-use Rattle.switch_core.proofs.Bridging.{OthersDown, among-same, bridge-acted, bridge-done, bridge-over, bridges_acted, news_over, others_down-acted, others_down-done, others_down-over, told_to}
+use Rattle.switch_core.specs.View.{front_concerns, only_if, stamped, view}
+use Rattle.switch_core.proofs.Bridging.{OthersDown, among-same, bridge-acted, bridge-done, bridge-over, news_over, others_down-acted, others_down-done, others_down-over, told_to}
 use Rattle.switch_core.proofs.Hearing.{bridge_past-heard, told_over, told_over-append}
 use Rattle.switch_core.proofs.Views.{by_front}
 

@@ -1,5 +1,6 @@
 pub mod Bridges
 pub mod Chosen
+pub mod Commuting
 pub mod FrontEvents
 pub mod FrontHealth
 pub mod FrontStands

@@ -31,11 +31,24 @@ pub record HearsAsOwner (rules : RuleSet) (port tick life number status : ℕ) (
   pub selected : selected_at rules (front_of past) ≡ Some port
   pub present : life ≡ token_life rules (front_of past)
 
--- That a job is done is heard by the token's owner alone.
-abbrev pub HeardByOwnerAlone : Type 0
-HeardByOwnerAlone = (rules : RuleSet) (port tick life number status : ℕ) (bytes : List ℕ) (past : List Seen)
+-- Wherever in a history the token says that a job is done, that is heard by its owner alone.
+abbrev pub HeardIn : RuleSet → List Seen → Type 0
+HeardIn rules events = (port tick life number status : ℕ) (bytes : List ℕ) (later past : List Seen)
+    → events ≡ later ++ job_done tick life number status bytes ∷ past
     → view rules port (job_done tick life number status bytes ∷ past) ≢ view rules port past
     → HearsAsOwner rules port tick life number status bytes past
+
+abbrev pub HeardByOwnerAlone : Type 0
+HeardByOwnerAlone = (rules : RuleSet) (events : List Seen) → HeardIn rules events
+
+-- Where in a history the token is routed twice in one life, it is routed to one port.
+abbrev pub RoutedOnceIn : RuleSet → List Seen → Type 0
+RoutedOnceIn rules events = (port other : ℕ) (later between past : List Seen) → events ≡ later ++ between ++ past
+    → token_port rules (front_of past) ≡ Some port → token_port rules (front_of (between ++ past)) ≡ Some other
+    → token_life rules (front_of past) ≡ token_life rules (front_of (between ++ past)) → port ≡ other
+
+abbrev pub LifeIsRoutedOnce : Type 0
+LifeIsRoutedOnce = (rules : RuleSet) (events : List Seen) → RoutedOnceIn rules events
 
 -- an event is an act of a port's computer that makes a job
 pub record MakesJob (rules : RuleSet) (port : ℕ) (job : Job) (event : Seen) (past : List Seen) : Type 0 where

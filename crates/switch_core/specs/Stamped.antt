@@ -68,9 +68,8 @@ ApartIn rules past =
 abbrev pub LivesAreApart : Type 0
 LivesAreApart = (rules : RuleSet) (past : List Seen) → ApartIn rules past
 
--- two acts of one port in one selection, at these ticks, of which one makes the first job and the other the second
-pub record MadeByOnePort (rules : RuleSet) (past : List Seen) (tick later : ℕ) (first second : Job) : Type 0 where
-  pub port : ℕ
+-- two acts at these ticks and of these ports, of which one makes the first job and the other the second
+pub record MadeBy (rules : RuleSet) (port other : ℕ) (past : List Seen) (tick later : ℕ) (first second : Job) : Type 0 where
   pub one : Seen
   pub two : Seen
   pub after : List Seen
@@ -80,8 +79,15 @@ pub record MadeByOnePort (rules : RuleSet) (past : List Seen) (tick later : ℕ)
   pub one_ticked : one.tick ≡ tick
   pub two_ticked : two.tick ≡ later
   pub made : MakesJob rules port first one before
-  pub again : MakesJob rules port second two (mid ++ one ∷ before)
-  pub once : selections rules (front_of (mid ++ one ∷ before)) ≡ selections rules (front_of before)
+  pub again : MakesJob rules other second two (mid ++ one ∷ before)
+
+-- two such acts of one port, in one selection
+pub record MadeByOnePort (rules : RuleSet) (past : List Seen) (tick later : ℕ) (first second : Job) : Type 0 where
+  pub port : ℕ
+  pub other : ℕ
+  pub acts : MadeBy rules port other past tick later first second
+  pub same : port ≡ other
+  pub once : selections rules (front_of (acts.mid ++ acts.one ∷ acts.before)) ≡ selections rules (front_of acts.before)
 
 -- Two jobs of one life, wherever they stand in the orders of a history, are one port's, made in one selection.
 abbrev pub OnePortsIn : RuleSet → List Seen → Type 0

@@ -1,5 +1,5 @@
 -- The token at the console, by what happened at the front: the moments at its plug, and what they give.
-use Rattle.std.specs.Prelude.{ℕ, ◌==◌, Bool, ◌&&◌, not, List, [], ◌∷◌, ◌++◌, Option, Some, None, if◌then◌else◌}
+use Rattle.std.specs.Prelude.{ℕ, ◌==◌, ◌&&◌, List, [], ◌∷◌, ◌++◌, Option, Some, None, if◌then◌else◌}
 use Rattle.psd_base.specs.declared.console.Note.{Note}
 use Rattle.psd_base.specs.declared.console.Order.{Order}
 use Rattle.psd_base.specs.declared.console.Plug.{Plug}

@@ -1,6 +1,7 @@
 //! What doesn't depend on what computers do, as laws: each function's contract is one, and its body is empty.
+ghost use Rattle.switch_core.specs.Commuting.{ActsCommute, StandsForSame};
 ghost use Rattle.switch_core.specs.Independence.{ConsoleIgnoresActs, SameViewSameLines, ViewIgnoresOthers};
-ghost use Rattle.switch_core.specs.Ownership.{HeardByOwnerAlone, JobsAreTheOwners, NoJobsUnselected};
+ghost use Rattle.switch_core.specs.Ownership.{HeardByOwnerAlone, JobsAreTheOwners, LifeIsRoutedOnce, NoJobsUnselected};
 ghost use Rattle.switch_core.specs.Ownership.{JobsOfOneLife, JobsOfTwoLives, JobsOfTwoSelections};
 ghost use Rattle.switch_core.specs.Stamped.{LifeIsOnePorts, LivesAreApart};
 
@@ -22,11 +23,27 @@ pub fn same_view_same_lines()
     ensures { SameViewSameLines }
 {}
 
+/// The switch knows its schedule only by what happened at the front and by the views of its ports: where it stands for one, it
+/// stands for each that says the same by these.
+pub fn same_words_same_switch()
+    ensures { StandsForSame }
+{}
+
+/// Acts of different computers commute: a schedule in which two of them, next to each other, are exchanged has the same at the
+/// front and the same view for each port.
+pub fn acts_commute()
+    ensures { ActsCommute }
+{}
+
 /// That a job is done is heard by the token's owner alone: the port to which it is routed, which is the selected one, in the
 /// life in which the job was ordered.
-#[tactic(auto, using(crate::proofs::Owning::heard_by_owner_alone))]
 pub fn heard_by_owner_alone()
     ensures { HeardByOwnerAlone }
+{}
+
+/// No life of the token is routed to two ports.
+pub fn life_is_routed_once()
+    ensures { LifeIsRoutedOnce }
 {}
 
 /// An act makes a job for the token only at the port to which the token is routed, which is the selected one, and in the

@@ -147,7 +147,9 @@ impl Ports {
         show_at(&mut self.seat, shown);
     }
 
-    /// Answers an act at a port's keyboard and mouse, in the place that the caller has for the answer.
+    /// Answers an act at a port's keyboard and mouse, in the place that the caller has for the answer. It is a call of its
+    /// own: in the loop over the events its registers would be spilled.
+    #[inline(never)]
     pub fn answer(&mut self, tick: Tick, port: PortId, act: &Act, answer: &mut Answer)
         requires { port ≤ port_count self.old }
         ensures count { port_count self.new ≡ port_count self.old }

@@ -79,6 +79,7 @@ impl Switch {
     }
 
     /// Serves one event. The turn then has what the event gave, and nothing else. It takes no memory.
+    #[inline(always)]
     pub fn step(&mut self, event: &Event, turn: &mut Turn)
         requires known { HappensWithin (port_total self.old) (happening_of event.now.what) }
         requires room { self.old.served < EVENTS_MAX }
@@ -89,19 +90,18 @@ impl Switch {
         ensures served { self.new.served ≡ self.old.served + 1 }
         ensures ports { port_total self.new ≡ port_total self.old }
     {
-        turn.begin();
-        self.served += 1;
         serve(&mut self.ports, &mut self.front, event, turn);
+        self.served += 1;
     }
 }
 
-/// Serves one event of a turn without orders and notes.
+/// Serves one event. The turn is begun in each case by itself: so the first that is asked is what the event is, which the
+/// compiler joins with how the reader made it.
+#[inline(always)]
 fn serve(ports: &mut Ports, front: &mut Front, event: &Event, turn: &mut Turn)
     requires known { HappensWithin (port_count ports.old) (happening_of event.now.what) }
     requires within { FrontWithin (u32.MAX - 1) front.old }
     requires gives { give_count ports.old.seat < u32.MAX }
-    requires no_orders { turn.old.orders.items ≡ [] }
-    requires no_notes { turn.old.notes.items ≡ [] }
     ensures count { port_count ports.new ≡ port_count ports.old }
     ensures few { give_count ports.new.seat ≤ give_count ports.old.seat + 1 }
     ensures ports { (rules : RuleSet) (past : List Seen) → PartsStand rules ports.old front.old past
@@ -120,15 +120,20 @@ fn serve(ports: &mut Ports, front: &mut Front, event: &Event, turn: &mut Turn)
 {
     let tick = event.tick;
     match &event.what {
-        What::Port(port, side, act) => match side {
-            Side::Km => ports.answer(tick, *port, act, &mut turn.answer),
-            Side::Ua => front.answer(*port, act, &mut turn.answer, &mut turn.orders),
-        },
+        What::Port(port, side, act) => {
+            turn.begin();
+            match side {
+                Side::Km => ports.answer(tick, *port, act, &mut turn.answer),
+                Side::Ua => front.answer(*port, act, &mut turn.answer, &mut turn.orders),
+            }
+        }
         What::Clock => {
+            turn.begin();
             front.clock(tick, &mut turn.orders, &mut turn.notes);
             ports.select(tick, front.selected());
         }
         What::Panel(panel) => {
+            turn.begin();
             serve_move(
                 ports,
                 front,
@@ -139,9 +144,11 @@ fn serve(ports: &mut Ports, front: &mut Front, event: &Event, turn: &mut Turn)
             );
         }
         What::Attach(plug) => {
+            turn.begin();
             front.attach(tick, *plug, &mut turn.orders);
         }
         What::Detach(plug) => {
+            turn.begin();
             serve_detach(ports, front, tick, *plug, &mut turn.orders);
         }
         What::Reply {
@@ -151,6 +158,7 @@ fn serve(ports: &mut Ports, front: &mut Front, event: &Event, turn: &mut Turn)
             status,
             bytes,
         } => {
+            turn.begin();
             front.reply(
                 tick,
                 *plug,
@@ -167,6 +175,7 @@ fn serve(ports: &mut Ports, front: &mut Front, event: &Event, turn: &mut Turn)
             interface,
             bytes,
         } => {
+            turn.begin();
             serve_report(ports, front, *plug, *interface, bytes);
         }
         What::JobDone {
@@ -175,6 +184,7 @@ fn serve(ports: &mut Ports, front: &mut Front, event: &Event, turn: &mut Turn)
             status,
             bytes,
         } => {
+            turn.begin();
             front.done(*life, *number, *status, bytes);
         }
     }

@@ -1,6 +1,7 @@
 //! What happens at the front, as the token's plug is told of it.
 ghost use Rattle.std.specs.Prelude.{◌≡◌, ◌+◌, ◌<◌, ◌≤◌, ◌++◌, List, [], length};
-ghost use Rattle.psd_base.specs.declared.console.TheConstants.{NOTES_MAX, ORDERS_MAX};
+ghost use Rattle.psd_base.specs.declared.console.TheConstants.{NOTES_MAX};
+ghost use Rattle.psd_base.specs.declared.orders.TheConstants.{ORDERS_MAX};
 ghost use Rattle.console_host.specs.Replies.{reply_of};
 ghost use Rattle.peripheral_filter.specs.declared.rule.RuleSet.{RuleSet};
 ghost use Rattle.auth_router.specs.Bridge.{BridgePast};

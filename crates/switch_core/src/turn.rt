@@ -36,9 +36,7 @@ impl Turn {
         ensures orders { self.new.orders.items ≡ [] }
         ensures notes { self.new.notes.items ≡ [] }
     {
-        if !self.orders.is_empty() {
-            self.orders.clear();
-        }
+        self.orders.clear();
         if !self.notes.is_empty() {
             self.notes.clear();
         }

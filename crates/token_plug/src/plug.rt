@@ -1,6 +1,7 @@
 //! The token's power, its enumeration and its routing, with the bridge.
 ghost use Rattle.std.specs.Prelude.{◌≡◌, ◌+◌, ◌<◌, ◌≤◌, ◌++◌, List, [], ◌∷◌, length, true, false, IsTrue, None, Some, if◌then◌else◌};
-ghost use Rattle.psd_base.specs.declared.console.TheConstants.{NOTES_MAX, ORDERS_MAX};
+ghost use Rattle.psd_base.specs.declared.console.TheConstants.{NOTES_MAX};
+ghost use Rattle.psd_base.specs.declared.orders.TheConstants.{ORDERS_MAX};
 ghost use Rattle.psd_base.specs.declared.console.Plug.TheVariants.{Token};
 ghost use Rattle.peripheral_filter.specs.declared.rule.RuleSet.{RuleSet};
 ghost use Rattle.peripheral_filter.specs.Steps.{is_packet_size};

@@ -1,41 +1,27 @@
--- One place after another shows the next key, or nothing.
-use Rattle.std.proofs.Common.{◌≡◌, suc, ◌+◌, ◌-◌, [], ◌∷◌, arith, refl, length-append}
-use Rattle.emulated_keyboard.specs.Report.{key_report}
-use Rattle.emulated_keyboard.proofs.ReportLaws.{filled_some, filled_none, filled_all}
+-- One place after another shows the next key, until none is left.
+use Rattle.std.proofs.Common.{◌≡◌, suc, ◌+◌, ◌-◌, arith, refl, ◌∙◌}
+use Rattle.std.proofs.lemmas.List.{length-set}
+use Rattle.emulated_keyboard.specs.Report.{filled, key_report}
+use Rattle.emulated_keyboard.proofs.ReportLaws.{shown_next, empty_next, shown_whole}
 use Rattle.emulated_keyboard.proofs.report.report_of.Goals as goal
-use Rattle.emulated_keyboard.proofs.report.report_of.Goals.{in-Some, in-None}
 
 pub places-init : goal.places-init
-unfolding key_report
+unfolding key_report filled
 places-init c =
-    rw (c.push-2.ensures, c.push.ensures, c.new-report.ensures, c.modifiers_of.ensures)
-    (record { report = refl; size = refl; to_last = omega arith })
-
-pub push-requires-in-Some : goal.push-requires-in-Some
-push-requires-in-Some c = (omega arith, omega (arith, c.places.invariant.size))
-
-pub push-requires-in-None : goal.push-requires-in-None
-push-requires-in-None c = (omega arith, omega (arith, c.places.invariant.size))
+    rw c.modifiers_of.ensures
+    (record { shown = refl; empty = refl; size = refl; to_last = omega arith })
 
 pub places-preserved : goal.places-preserved
 places-preserved c =
-    let n : 6 - c.places.counter ≡ suc (6 - (c.places.counter + 1)) = omega arith in
-    elim c.match-least_between.branch [
-      | in-Some w ↦
-          rw (w.report-is, w.next-is, w.push-in-Some.ensures)
-          (record {
-            report = filled_some c.args.keys.now c.places.report (6 - c.places.counter) (6 - (c.places.counter + 1)) c.places.next w.in-Some.usage n c.places.invariant.report w.in-Some.ensures.some w.in-Some.ensures.inside.1;
-            size = omega (arith, c.places.invariant.size, length-append c.places.report (w.in-Some.usage ∷ []));
-            to_last = omega (arith, w.in-Some.ensures.inside);
-          })
-      | in-None w ↦
-          rw (w.report-is, w.next-is, w.push-in-None.ensures)
-          (record {
-            report = filled_none c.args.keys.now c.places.report (6 - c.places.counter) (6 - (c.places.counter + 1)) c.places.next n c.places.invariant.report w.in-None.ensures.none;
-            size = omega (arith, c.places.invariant.size, length-append c.places.report (0 ∷ []));
-            to_last = c.places.invariant.to_last;
-          })
-    ]
+    let places : 8 - c.places.place ≡ suc (8 - (c.places.place + 1)) = omega arith in
+    record {
+      shown = shown_next c.args.keys.now c.places.report c.places.place (8 - c.places.place) (8 - (c.places.place + 1)) c.in-Some.usage places c.places.next
+          (omega (arith, c.places.invariant.size)) c.places.invariant.shown c.in-Some.ensures.some c.in-Some.ensures.inside.1;
+      empty = empty_next c.args.keys.now c.places.report c.places.place (8 - c.places.place) (8 - (c.places.place + 1)) c.in-Some.usage places c.places.invariant.empty;
+      size = length-set c.places.report c.places.place c.in-Some.usage ∙ c.places.invariant.size;
+      to_last = omega (arith, c.in-Some.ensures.inside);
+    }
 
-pub returns : goal.returns
-returns c = filled_all c.args.keys.now c.places.report (6 - c.places.counter) c.places.next (omega arith) c.places.invariant.report
+pub returns-after-places : goal.returns-after-places
+returns-after-places c =
+    shown_whole c.args.keys.now c.places.report c.places.place (8 - c.places.place) _ (omega arith) c.places.invariant.shown c.places.invariant.empty

@@ -1,6 +1,5 @@
 -- The pipe answers, and the keyboard and the mouse are told what was completed.
-use Rattle.std.proofs.Common.{◌≡◌, ◌∷◌, ◌∙◌, Bool, ap, sym, subst}
-use Rattle.psd_base.specs.declared.setup.Setup.{Setup}
+use Rattle.std.proofs.Common.{◌∙◌, sym, subst}
 use Rattle.control_pipe.specs.Control.{transfer_completed, control_effect}
 use Rattle.emulated_keyboard.specs.Delivery as typed
 use Rattle.emulated_keyboard.specs.KeyboardStands.{KeyboardStands}

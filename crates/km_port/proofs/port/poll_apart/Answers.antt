@@ -1,10 +1,7 @@
 -- The keyboard, or the mouse, is polled.
-use Rattle.std.proofs.Common.{◌∷◌, ◌∙◌, false, sym, subst}
+use Rattle.std.proofs.Common.{◌∙◌, false, sym}
 use Rattle.emulated_keyboard.specs.Delivery as typed
 use Rattle.emulated_mouse.specs.Delivery as moved
-use Rattle.km_port.specs.OnePort.{with_poll}
-use Rattle.km_port.specs.PortStands.{KmStands}
-use Rattle.km_port.specs.declared.polled.Polled.{Polled}
 use Rattle.km_port.proofs.Showing.{typed-at, moved-at}
 use Rattle.km_port.proofs.port.poll_apart.Goals as goal
 
@@ -13,7 +10,7 @@ returns-in-Keyboard-clause-stands c = λ parts stands.
     let after = typed-at (typed.Read c.args.tick c.in-Keyboard.acked) parts.keys false (sym stands.keyboard.entered ∙ c.requires.keyboard) in
     rw (sym (c.in-Keyboard.ensures parts.control stands.control)) (record {
       control = stands.control;
-      keyboard = rw after (c.poll_apart.ensures.stands (typed.sides_of parts.keys).keyboard (rw c.function_mut.ensures.value stands.keyboard));
+      keyboard = rw after (c.poll_apart_into.ensures.stands (typed.sides_of parts.keys).keyboard (rw c.function_mut.ensures.value stands.keyboard));
       mouse = rw c.function_mut.ensures.value stands.mouse;
     })
 
@@ -23,5 +20,5 @@ returns-in-Mouse-clause-stands c = λ parts stands.
     rw (sym (c.in-Mouse.ensures parts.control stands.control)) (record {
       control = stands.control;
       keyboard = rw c.function_mut-in-Mouse.ensures.value stands.keyboard;
-      mouse = rw after (c.poll_apart-in-Mouse.ensures.stands (moved.sides_of parts.pointer).mouse (rw c.function_mut-in-Mouse.ensures.value stands.mouse));
+      mouse = rw after (c.poll_apart_into-in-Mouse.ensures.stands (moved.sides_of parts.pointer).mouse (rw c.function_mut-in-Mouse.ensures.value stands.mouse));
     })

@@ -1,18 +1,18 @@
 -- What happens at the front reaches the ports that it concerns, and the bridge of the one to which the token is routed.
-use Rattle.std.proofs.Common.{◌≡◌, ◌∷◌, ◌++◌, ℕ, List, Option, Some, refl, sym, subst, ap, ◌∙◌}
+use Rattle.std.proofs.Common.{◌∷◌, ℕ, Option, Some, refl, sym, subst, ap, ◌∙◌}
 use Rattle.psd_base.specs.declared.act.Answer.{Answer}
-use Rattle.psd_base.specs.declared.act.Side.TheVariants.{Km, Ua}
+use Rattle.psd_base.specs.declared.act.Side.TheVariants.{Ua}
 use Rattle.psd_base.specs.declared.line.Line.{Line}
-use Rattle.psd_base.specs.Event.{AtFront, Seen, TimePasses, PanelMoves, Attaches, Detaches, Replies, Reports, Finishes}
+use Rattle.psd_base.specs.Event.{AtFront, TimePasses, PanelMoves, Attaches, Detaches, Replies, Reports, Finishes}
 use Rattle.auth_router.specs.Bridge.{BridgePast}
-use Rattle.switch_core.specs.Bridges.{bridge_after, bridge_front, bridges_of}
+use Rattle.switch_core.specs.Bridges.{bridge_after, bridges_of}
 use Rattle.switch_core.specs.Chosen.{given_after, selected_at}
 use Rattle.switch_core.specs.FrontEvents.{front_event, front_of}
 use Rattle.switch_core.specs.FrontStands.{FrontStands}
 use Rattle.switch_core.specs.PortsStand.{PortsStand, port_count}
 use Rattle.switch_core.specs.SeatStands.{CanHave, give_count}
 use Rattle.switch_core.specs.SlotStands.{views_of}
-use Rattle.switch_core.specs.Token.{token_life, token_news, token_port}
+use Rattle.switch_core.specs.Token.{token_life, token_port}
 use Rattle.switch_core.specs.View.{news_at}
 use Rattle.switch_core.specs.Views.{selected_to}
 use Rattle.switch_core.proofs.Bridging.{answer-acted, jobs-acted}
@@ -147,7 +147,7 @@ returns-in-Attach-clause-orders c = λ rules past parts.
 
 pub returns-in-Attach-clause-notes : goal.returns-in-Attach-clause-notes
 returns-in-Attach-clause-notes c = λ rules past parts.
-    rw c.in-Attach.is (c.requires.no_notes ∙ sym (attach_notes-none rules c.args.event.now.tick c.in-Attach.plug (front_of past)))
+    rw c.in-Attach.is (c.begin-in-Attach.ensures.notes ∙ sym (attach_notes-none rules c.args.event.now.tick c.in-Attach.plug (front_of past)))
 
 pub returns-in-Detach-clause-ports : goal.returns-in-Detach-clause-ports
 returns-in-Detach-clause-ports c = λ rules past parts. rw c.in-Detach.is (c.serve_detach.ensures.ports rules past parts)
@@ -166,7 +166,7 @@ returns-in-Detach-clause-orders c = λ rules past parts.
 
 pub returns-in-Detach-clause-notes : goal.returns-in-Detach-clause-notes
 returns-in-Detach-clause-notes c = λ rules past parts.
-    rw c.in-Detach.is (c.requires.no_notes ∙ sym (detach_notes-none rules c.args.event.now.tick c.in-Detach.plug (front_of past)))
+    rw c.in-Detach.is (c.begin-in-Detach.ensures.notes ∙ sym (detach_notes-none rules c.args.event.now.tick c.in-Detach.plug (front_of past)))
 
 pub returns-in-Reply-clause-ports : goal.returns-in-Reply-clause-ports
 returns-in-Reply-clause-ports c = λ rules past parts.
@@ -203,11 +203,11 @@ returns-in-Report-clause-front c = λ rules past parts.
 
 pub returns-in-Report-clause-orders : goal.returns-in-Report-clause-orders
 returns-in-Report-clause-orders c = λ rules past parts.
-    rw c.in-Report.is (c.requires.no_orders ∙ sym (report_orders-none rules c.args.event.now.tick c.in-Report.interface c.in-Report.bytes.now c.in-Report.plug (front_of past)))
+    rw c.in-Report.is (c.begin-in-Report.ensures.orders ∙ sym (report_orders-none rules c.args.event.now.tick c.in-Report.interface c.in-Report.bytes.now c.in-Report.plug (front_of past)))
 
 pub returns-in-Report-clause-notes : goal.returns-in-Report-clause-notes
 returns-in-Report-clause-notes c = λ rules past parts.
-    rw c.in-Report.is (c.requires.no_notes ∙ sym (report_notes-none rules c.args.event.now.tick c.in-Report.interface c.in-Report.bytes.now c.in-Report.plug (front_of past)))
+    rw c.in-Report.is (c.begin-in-Report.ensures.notes ∙ sym (report_notes-none rules c.args.event.now.tick c.in-Report.interface c.in-Report.bytes.now c.in-Report.plug (front_of past)))
 
 -- A job is done
 
@@ -228,8 +228,8 @@ returns-in-JobDone-clause-front c = λ rules past parts.
 
 pub returns-in-JobDone-clause-orders : goal.returns-in-JobDone-clause-orders
 returns-in-JobDone-clause-orders c = λ rules past parts.
-    rw c.in-JobDone.is (c.requires.no_orders ∙ sym (done_orders-none rules c.args.event.now.tick c.in-JobDone.life c.in-JobDone.number c.in-JobDone.status c.in-JobDone.bytes.now (front_of past)))
+    rw c.in-JobDone.is (c.begin-in-JobDone.ensures.orders ∙ sym (done_orders-none rules c.args.event.now.tick c.in-JobDone.life c.in-JobDone.number c.in-JobDone.status c.in-JobDone.bytes.now (front_of past)))
 
 pub returns-in-JobDone-clause-notes : goal.returns-in-JobDone-clause-notes
 returns-in-JobDone-clause-notes c = λ rules past parts.
-    rw c.in-JobDone.is (c.requires.no_notes ∙ sym (done_notes-none rules c.args.event.now.tick c.in-JobDone.life c.in-JobDone.number c.in-JobDone.status c.in-JobDone.bytes.now (front_of past)))
+    rw c.in-JobDone.is (c.begin-in-JobDone.ensures.notes ∙ sym (done_notes-none rules c.args.event.now.tick c.in-JobDone.life c.in-JobDone.number c.in-JobDone.status c.in-JobDone.bytes.now (front_of past)))

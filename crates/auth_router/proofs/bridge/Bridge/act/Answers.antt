@@ -1,5 +1,5 @@
 -- The only order is that of the job which the act makes.
-use Rattle.std.proofs.Common.{◌∙◌, ap, List, Option}
+use Rattle.std.proofs.Common.{◌∙◌, ap, List}
 use Rattle.std.specs.Prelude.{slice_get}
 use Rattle.psd_base.specs.declared.console.Order.{Order}
 use Rattle.auth_router.specs.Bridge.{bridge_made}

@@ -1,11 +1,11 @@
 -- What a step leaves, and why it stops.
-use Rattle.std.proofs.Common.{inr, refl, ap, ◌∙◌}
+use Rattle.std.proofs.Common.{inr, refl, ap, sym, ◌∙◌}
 use Rattle.std.proofs.lemmas.Result.{IfErr-weaker}
 use Rattle.psd_base.specs.declared.outlet.Input.TheVariants as inputs
 use Rattle.capture_reader.specs.declared.fault.Fault.TheVariants.{Record, Line}
 use Rattle.capture_reader.specs.declared.progress.State.{State}
 use Rattle.capture_reader.specs.Ahead.{ahead_of, line_of}
-use Rattle.capture_reader.specs.Progress.{reading, given_in}
+use Rattle.capture_reader.specs.Progress.{reading, given_in, as_waiting}
 use Rattle.capture_reader.specs.Reader.{rest, records_held, lines_held}
 use Rattle.capture_reader.proofs.Giving.{gave_same, looked_and_gave, looks_at, gave_of_capture, gave_of_script, too_many_behind, capture_behind, script_behind}
 use Rattle.capture_reader.proofs.Upcoming.{capture_stops, script_stops, ended, too_many, not_ok_true, record_lines, lines_still}
@@ -13,10 +13,13 @@ use Rattle.capture_reader.proofs.progress.Progress.advance.Goals as goal
 
 pub returns-in-Waiting-clause-end : goal.returns-in-Waiting-clause-end
 returns-in-Waiting-clause-end g c is =
+    let now = c.args.self.now in
     let capture_left = (g.D.Desk.told c.args.desk.now).left inputs.Capture in
     let script_left = (g.D.Desk.told c.args.desk.now).left inputs.Script in
     let end = c.give.ensures.end is in
-    ended c.give.new.self c.args.self.now _ capture_left script_left end.0 c.in-Waiting.is end.1 end.2 end.3 (c.give.ensures.rest (not_ok_true c.give.result is) capture_left script_left)
+    ended c.give.new.self (as_waiting now) _ capture_left script_left end.0 refl end.1 end.2 end.3
+    (c.give.ensures.rest (not_ok_true c.give.result is) capture_left script_left
+    ∙ ap (λ (state : State). rest (reading (record now { state = state })) capture_left script_left) (sym c.in-Waiting.is))
 
 pub returns-in-Waiting-clause-cause : goal.returns-in-Waiting-clause-cause
 returns-in-Waiting-clause-cause g c =
@@ -32,10 +35,10 @@ returns-in-Ok-clause-end g c is =
     let now = c.args.self.now in
     let capture_left = (g.D.Desk.told c.look_at_record.new.desk).left inputs.Capture in
     let script_left = (g.D.Desk.told c.look_at_record.new.desk).left inputs.Script in
-    let looked = c.look_at_record.ensures.rest script_left
+    let looked = c.in-Ok.ensures.rest script_left
     ∙ ap (rest (reading now) ((g.D.Desk.told c.args.desk.now).left inputs.Capture)) (c.look_at_record.ensures.only.inputs inputs.Script (λ same. cc)) in
     let end = c.give-in-Ok.ensures.end is in
-    ended c.give-in-Ok.new.self c.look_at_record.new.self _ capture_left script_left end.0 c.in-Ok.ensures.ok end.1 end.2 end.3
+    ended c.give-in-Ok.new.self (as_waiting c.look_at_record.new.self) _ capture_left script_left end.0 refl end.1 end.2 end.3
     (c.give-in-Ok.ensures.rest (not_ok_true c.give-in-Ok.result is) capture_left script_left ∙ looked)
 
 pub returns-in-Ok-clause-cause : goal.returns-in-Ok-clause-cause
@@ -43,12 +46,12 @@ returns-in-Ok-clause-cause g c =
     let now = c.args.self.now in
     let capture_left = (g.D.Desk.told c.look_at_record.new.desk).left inputs.Capture in
     let script_left = (g.D.Desk.told c.look_at_record.new.desk).left inputs.Script in
-    let looked = c.look_at_record.ensures.rest script_left
+    let looked = c.in-Ok.ensures.rest script_left
     ∙ ap (rest (reading now) ((g.D.Desk.told c.args.desk.now).left inputs.Capture)) (c.look_at_record.ensures.only.inputs inputs.Script (λ same. cc)) in
     let before = rest (reading now) ((g.D.Desk.told c.args.desk.now).left inputs.Capture) ((g.D.Desk.told c.args.desk.now).left inputs.Script) in
     IfErr-weaker c.give-in-Ok.result _ _
-    (λ fault is. inr (too_many c.give-in-Ok.new.self c.look_at_record.new.self before capture_left script_left (g.D.Desk.told c.args.desk.now) (g.D.Desk.told c.look_at_record.new.desk) fault
-    is.0 is.1 c.in-Ok.ensures.ok is.3 is.2 looked))
+    (λ fault is. inr (too_many c.give-in-Ok.new.self (as_waiting c.look_at_record.new.self) before capture_left script_left (g.D.Desk.told c.args.desk.now) (g.D.Desk.told c.look_at_record.new.desk) fault
+    is.0 is.1 refl is.3 is.2 looked))
     c.give-in-Ok.ensures.stop
 
 pub returns-in-Err-clause-cause : goal.returns-in-Err-clause-cause
@@ -57,7 +60,7 @@ returns-in-Err-clause-cause g c =
     let new = c.look_at_record.new.self in
     let capture_left = (g.D.Desk.told c.look_at_record.new.desk).left inputs.Capture in
     let script_left = (g.D.Desk.told c.look_at_record.new.desk).left inputs.Script in
-    let looked = c.look_at_record.ensures.rest script_left
+    let looked = c.in-Err.ensures.rest script_left
     ∙ ap (rest (reading now) ((g.D.Desk.told c.args.desk.now).left inputs.Capture)) (c.look_at_record.ensures.only.inputs inputs.Script (λ same. cc)) in
     let before = rest (reading now) ((g.D.Desk.told c.args.desk.now).left inputs.Capture) ((g.D.Desk.told c.args.desk.now).left inputs.Script) in
     let counts = c.look_at_record.ensures.counts in
@@ -70,10 +73,10 @@ returns-in-Ok-look_at_line-clause-end g c is =
     let now = c.args.self.now in
     let capture_left = (g.D.Desk.told c.look_at_line.new.desk).left inputs.Capture in
     let script_left = (g.D.Desk.told c.look_at_line.new.desk).left inputs.Script in
-    let looked = c.look_at_line.ensures.rest capture_left
+    let looked = c.in-Ok-look_at_line.ensures.rest capture_left
     ∙ ap (λ left. rest (reading now) left ((g.D.Desk.told c.args.desk.now).left inputs.Script)) (c.look_at_line.ensures.only.inputs inputs.Capture (λ same. cc)) in
     let end = c.give-in-Ok-look_at_line.ensures.end is in
-    ended c.give-in-Ok-look_at_line.new.self c.look_at_line.new.self _ capture_left script_left end.0 c.in-Ok-look_at_line.ensures.ok end.1 end.2 end.3
+    ended c.give-in-Ok-look_at_line.new.self (as_waiting c.look_at_line.new.self) _ capture_left script_left end.0 refl end.1 end.2 end.3
     (c.give-in-Ok-look_at_line.ensures.rest (not_ok_true c.give-in-Ok-look_at_line.result is) capture_left script_left ∙ looked)
 
 pub returns-in-Ok-look_at_line-clause-cause : goal.returns-in-Ok-look_at_line-clause-cause
@@ -81,12 +84,12 @@ returns-in-Ok-look_at_line-clause-cause g c =
     let now = c.args.self.now in
     let capture_left = (g.D.Desk.told c.look_at_line.new.desk).left inputs.Capture in
     let script_left = (g.D.Desk.told c.look_at_line.new.desk).left inputs.Script in
-    let looked = c.look_at_line.ensures.rest capture_left
+    let looked = c.in-Ok-look_at_line.ensures.rest capture_left
     ∙ ap (λ left. rest (reading now) left ((g.D.Desk.told c.args.desk.now).left inputs.Script)) (c.look_at_line.ensures.only.inputs inputs.Capture (λ same. cc)) in
     let before = rest (reading now) ((g.D.Desk.told c.args.desk.now).left inputs.Capture) ((g.D.Desk.told c.args.desk.now).left inputs.Script) in
     IfErr-weaker c.give-in-Ok-look_at_line.result _ _
-    (λ fault is. inr (too_many c.give-in-Ok-look_at_line.new.self c.look_at_line.new.self before capture_left script_left (g.D.Desk.told c.args.desk.now) (g.D.Desk.told c.look_at_line.new.desk) fault
-    is.0 is.1 c.in-Ok-look_at_line.ensures.ok is.3 is.2 looked))
+    (λ fault is. inr (too_many c.give-in-Ok-look_at_line.new.self (as_waiting c.look_at_line.new.self) before capture_left script_left (g.D.Desk.told c.args.desk.now) (g.D.Desk.told c.look_at_line.new.desk) fault
+    is.0 is.1 refl is.3 is.2 looked))
     c.give-in-Ok-look_at_line.ensures.stop
 
 pub returns-in-Err-look_at_line-clause-cause : goal.returns-in-Err-look_at_line-clause-cause
@@ -95,12 +98,12 @@ returns-in-Err-look_at_line-clause-cause g c =
     let new = c.look_at_line.new.self in
     let capture_left = (g.D.Desk.told c.look_at_line.new.desk).left inputs.Capture in
     let script_left = (g.D.Desk.told c.look_at_line.new.desk).left inputs.Script in
-    let looked = c.look_at_line.ensures.rest capture_left
+    let looked = c.in-Err-look_at_line.ensures.rest capture_left
     ∙ ap (λ left. rest (reading now) left ((g.D.Desk.told c.args.desk.now).left inputs.Script)) (c.look_at_line.ensures.only.inputs inputs.Capture (λ same. cc)) in
     let before = rest (reading now) ((g.D.Desk.told c.args.desk.now).left inputs.Capture) ((g.D.Desk.told c.args.desk.now).left inputs.Script) in
     let failed = c.in-Err-look_at_line.ensures.err in
     inr (script_stops new before capture_left script_left (g.D.Desk.told c.args.desk.now) (g.D.Desk.told c.look_at_line.new.desk) (Line c.in-Err-look_at_line.fault) c.in-Err-look_at_line.fault
-    failed.0 failed.1 c.look_at_line.ensures.sound.same_ports looked failed.2)
+    failed.0 failed.1 c.in-Err-look_at_line.ensures.sound.same_ports looked failed.2)
 
 -- what was taken
 
@@ -114,16 +117,16 @@ returns-in-Ok-clause-took g c =
     let now = c.args.self.now in
     let told = g.D.Desk.told c.args.desk.now in
     let told_after = g.D.Desk.told c.look_at_record.new.desk in
-    looked_and_gave (records_held now.capture.ports (reading now).capture) (lines_held (reading now).script) c.look_at_record.new.self c.give-in-Ok.new.self told told_after c.in-Ok.ensures.ok
-    c.give-in-Ok.ensures.counts.1 c.give-in-Ok.ensures.counts.2 c.look_at_record.ensures.took (c.give-in-Ok.ensures.took told_after)
+    looked_and_gave (records_held now.capture.ports (reading now).capture) (lines_held (reading now).script) (as_waiting c.look_at_record.new.self) c.give-in-Ok.new.self told told_after refl
+    c.give-in-Ok.ensures.counts.1 c.give-in-Ok.ensures.counts.2 c.in-Ok.ensures.took (c.give-in-Ok.ensures.took told_after)
 
 pub returns-in-Ok-look_at_line-clause-took : goal.returns-in-Ok-look_at_line-clause-took
 returns-in-Ok-look_at_line-clause-took g c =
     let now = c.args.self.now in
     let told = g.D.Desk.told c.args.desk.now in
     let told_after = g.D.Desk.told c.look_at_line.new.desk in
-    looked_and_gave (records_held now.capture.ports (reading now).capture) (lines_held (reading now).script) c.look_at_line.new.self c.give-in-Ok-look_at_line.new.self told told_after c.in-Ok-look_at_line.ensures.ok
-    c.give-in-Ok-look_at_line.ensures.counts.1 c.give-in-Ok-look_at_line.ensures.counts.2 c.look_at_line.ensures.took (c.give-in-Ok-look_at_line.ensures.took told_after)
+    looked_and_gave (records_held now.capture.ports (reading now).capture) (lines_held (reading now).script) (as_waiting c.look_at_line.new.self) c.give-in-Ok-look_at_line.new.self told told_after refl
+    c.give-in-Ok-look_at_line.ensures.counts.1 c.give-in-Ok-look_at_line.ensures.counts.2 c.in-Ok-look_at_line.ensures.took (c.give-in-Ok-look_at_line.ensures.took told_after)
 
 -- where a read is tried, and behind what it fails
 

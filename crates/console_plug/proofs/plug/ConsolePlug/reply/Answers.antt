@@ -43,7 +43,7 @@ pub returns-in-Ask-clause-orders : goal.returns-in-Ask-clause-orders
 returns-in-Ask-clause-orders c = λ plug past g.
     let answered = c.in-Ask.ensures.answer plug (host_calls past) g.attachment in
     let orders = replied-orders plug c.args.rules.now c.args.life c.args.number c.args.tick (reply_of c.args.status c.args.bytes.now) past _ answered in
-    c.push.ensures.items ∙ ap (λ (more : List Order). c.args.orders.now.items ++ more) (sym orders)
+    c.push.ensures ∙ ap (λ (more : List Order). c.args.orders.now.items ++ more) (sym orders)
 
 pub returns-in-Ready-clause-orders : goal.returns-in-Ready-clause-orders
 returns-in-Ready-clause-orders c = λ plug past g.

@@ -1,8 +1,6 @@
 -- What the keyboard shows is offered to the key latch.
-use Rattle.std.proofs.Common.{◌∷◌, ◌∙◌, true, sym, subst}
-use Rattle.input_latch.specs.KeyLatchStands.{KeyLatchStands}
+use Rattle.std.proofs.Common.{true}
 use Rattle.emulated_keyboard.specs.Delivery as typed
-use Rattle.emulated_keyboard.specs.KeyboardHistory as keyboard
 use Rattle.km_port.specs.OnePort.{parts_of}
 use Rattle.km_port.proofs.Showing.{typed-at}
 use Rattle.km_port.proofs.console.Console+Owned.keys.Goals as goal

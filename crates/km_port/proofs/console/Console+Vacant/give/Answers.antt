@@ -1,5 +1,5 @@
 -- The latches of a port that wasn't selected are as new.
-use Rattle.std.proofs.Common.{◌∷◌, false, refl}
+use Rattle.std.proofs.Common.{false, refl}
 use Rattle.emulated_keyboard.specs.Delivery as typed
 use Rattle.emulated_mouse.specs.Delivery as moved
 use Rattle.km_port.specs.OnePort.{parts_of}

@@ -1,9 +1,7 @@
 -- The keyboard and the mouse part.
-use Rattle.std.proofs.Common.{◌∷◌, ◌∙◌, true, sym, subst}
+use Rattle.std.proofs.Common.{◌∙◌, true, sym}
 use Rattle.emulated_keyboard.specs.Delivery as typed
-use Rattle.emulated_keyboard.specs.KeyboardStands.{KeyboardStands}
 use Rattle.emulated_mouse.specs.Delivery as moved
-use Rattle.emulated_mouse.specs.MouseStands.{MouseStands}
 use Rattle.km_port.specs.OnePort.{parts_of}
 use Rattle.km_port.proofs.Showing.{typed-at, moved-at}
 use Rattle.km_port.proofs.port.Port+Live.farewell.Goals as goal

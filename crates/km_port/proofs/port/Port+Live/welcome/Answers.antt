@@ -1,5 +1,5 @@
 -- The keyboard and the mouse enter.
-use Rattle.std.proofs.Common.{◌∷◌, ◌∙◌, false, sym}
+use Rattle.std.proofs.Common.{◌∙◌, false, sym}
 use Rattle.emulated_keyboard.specs.Delivery as typed
 use Rattle.emulated_mouse.specs.Delivery as moved
 use Rattle.km_port.specs.OnePort.{parts_of}

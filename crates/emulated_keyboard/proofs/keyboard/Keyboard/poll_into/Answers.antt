@@ -7,7 +7,7 @@ use Rattle.emulated_keyboard.specs.KeyboardHistory.{KeyboardEntry, Polled, shown
 use Rattle.emulated_keyboard.specs.KeyboardStands.{KeyboardStands}
 use Rattle.emulated_keyboard.specs.KeyboardSteps.{made_keys}
 use Rattle.emulated_keyboard.proofs.KeyboardLaws.{shows_span, not_due, left_where_due, case_of-is, same_made, stands_polled}
-use Rattle.emulated_keyboard.proofs.keyboard.Keyboard.poll.Goals as goal
+use Rattle.emulated_keyboard.proofs.keyboard.Keyboard.poll_into.Goals as goal
 
 module _ (c : goal.After-give) (past : List KeyboardEntry) (keys : List KeyEntry) (stands : KeyboardStands c.args.self.now past) (latch : KeyLatchStands c.args.latch.now keys) where
   case : c.case_at-given.result ≡ given_at (next_change keys) c.args.tick past

@@ -8,7 +8,7 @@ use Rattle.port_transcript.specs.ConsoleLine.{order_text}
 use Rattle.kvm_program.specs.Console.{orders_text}
 use Rattle.kvm_program.proofs.Orders.{orders_text-parts}
 use Rattle.kvm_program.proofs.Parts.{Grew-part, Touches-then}
-use Rattle.kvm_program.proofs.outlets.write_each.Goals as goal
+use Rattle.kvm_program.proofs.outlets.write_orders.Goals as goal
 
 pub returns-in_err-write_order-clause-wrote : goal.returns-in_err-write_order-clause-wrote
 returns-in_err-write_order-clause-wrote g c =

@@ -8,7 +8,7 @@ use Rattle.emulated_mouse.specs.MouseHistory.{MouseEntry, Polled, begun, rest, l
 use Rattle.emulated_mouse.specs.MouseStands.{MouseStands}
 use Rattle.emulated_mouse.specs.MouseSteps.{made_report}
 use Rattle.emulated_mouse.proofs.MouseLaws.{shows_span, not_due, left_where_due, case_of-is, same_made, stands_polled}
-use Rattle.emulated_mouse.proofs.mouse.Mouse.poll.Goals as goal
+use Rattle.emulated_mouse.proofs.mouse.Mouse.poll_into.Goals as goal
 
 module _ (c : goal.After-give) (past : List MouseEntry) (entries : List PointerEntry) (stands : MouseStands c.args.self.now past) (latch : PointerLatchStands c.args.latch.now entries) where
   case : c.case_at-given.result ≡ given_at (next_change entries) past

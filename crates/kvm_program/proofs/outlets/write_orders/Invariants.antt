@@ -4,7 +4,7 @@ use Rattle.psd_base.specs.Desk.{OnlyWrites}
 use Rattle.psd_base.specs.declared.outlet.Outlet.TheVariants as outlet
 use Rattle.kvm_program.specs.Console.{orders_text}
 use Rattle.kvm_program.specs.Outlets.{Grew}
-use Rattle.kvm_program.proofs.outlets.write_each.Given as goal
+use Rattle.kvm_program.proofs.outlets.write_orders.Given as goal
 
 abbrev pub invariant-loop-order : goal.invariant-loop-order
 invariant-loop-order g l = record {
