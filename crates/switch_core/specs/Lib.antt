@@ -23,4 +23,5 @@ pub mod StandsFor
 pub mod Token
 pub mod View
 pub mod Views
+pub mod Visits
 pub mod Wired

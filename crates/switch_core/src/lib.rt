@@ -14,6 +14,8 @@ pub mod slot;
 pub mod switch;
 mod token;
 pub mod turn;
+pub mod visits;
 
 pub use switch::Switch;
 pub use turn::Turn;
+pub use visits::Visits;

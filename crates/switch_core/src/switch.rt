@@ -1,5 +1,5 @@
 //! The switch: its ports and its front, and the step that serves one event.
-ghost use Rattle.std.specs.Prelude.{◌≡◌, ℕ, ◌+◌, ◌-◌, ◌<◌, ◌≤◌, List, [], ◌∷◌, IfOk, IfSome, option_map};
+ghost use Rattle.std.specs.Prelude.{◌≡◌, ℕ, ◌+◌, ◌-◌, ◌<◌, ◌≤◌, List, [], ◌∷◌, None, IfOk, IfSome, option_map};
 ghost use Rattle.psd_base.specs.Event.{Seen, seen, happening_of, HappensWithin, MovesWithin};
 ghost use Rattle.psd_base.specs.Event.{AtFront, Detaches, PanelMoves, Reports};
 ghost use Rattle.peripheral_filter.specs.declared.rule.RuleSet.{RuleSet};
@@ -9,6 +9,7 @@ ghost use Rattle.switch_core.specs.Gives.{gives_at, gives_of};
 ghost use Rattle.switch_core.specs.Notes.{front_notes, notes_at};
 ghost use Rattle.switch_core.specs.Orders.{front_orders, orders_at};
 ghost use Rattle.switch_core.specs.SlotStands.{views_of};
+ghost use Rattle.switch_core.specs.Visits.{visits_after};
 ghost use Rattle.switch_core.specs.PortsStand.{PortsStand, port_count};
 ghost use Rattle.switch_core.specs.SeatStands.{give_count};
 ghost use Rattle.switch_core.specs.PartsStand.{PartsStand};
@@ -20,13 +21,14 @@ ghost use Rattle.switch_core.specs.Bridges.{bridge_after, bridge_front};
 use crate::front::Front;
 use crate::ports::Ports;
 use crate::turn::Turn;
+use crate::visits::Visits;
 use fail_secure::HealthChange;
 use km_port::{Console, Owned};
 use peripheral_filter::RuleSet;
 use psd_base::act::Side;
 use psd_base::console::{Notes, Orders, Panel, Plug};
 use psd_base::event::{EVENTS_MAX, Event, Tick, What};
-use psd_base::port::MAX_PORTS;
+use psd_base::port::{MAX_PORTS, PortId};
 use std::alloc::{AllocError, Global};
 
 /// The switch.
@@ -35,8 +37,10 @@ pub struct Switch {
     ports: Ports,
     front: Front,
     served: u32,
+    visits: Visits,
     ghost few: { FrontWithin served front },
     ghost few_gives: { give_count ports.seat ≤ served },
+    ghost few_visits: { visits.count ≤ served },
 }
 
 impl Switch {
@@ -50,6 +54,7 @@ impl Switch {
         ensures stands { IfOk result (λ switch. StandsFor rules switch []) }
         ensures ports { IfOk result (λ switch. port_total switch ≡ ports) }
         ensures served { IfOk result (λ switch. switch.served ≡ 0) }
+        ensures visits { IfOk result (λ switch. switch.visits ≡ record { last = None; count = 0 }) }
     {
         let ports = Ports::new(alloc, ports)?;
         let front = Front::new(alloc, rules)?;
@@ -57,6 +62,7 @@ impl Switch {
             ports,
             front,
             served: 0,
+            visits: Visits::none(),
         })
     }
 
@@ -65,6 +71,20 @@ impl Switch {
         ensures { result ≡ self.now.served }
     {
         self.served
+    }
+
+    /// The port of the last act that was served. None exactly where none was.
+    pub fn last_port(&self) -> Option<PortId>
+        ensures { result ≡ self.now.visits.last }
+    {
+        self.visits.last
+    }
+
+    /// How many acts weren't at the port of the act before them: so often the switch went to a port.
+    pub fn visits(&self) -> u32
+        ensures { result ≡ self.now.visits.count }
+    {
+        self.visits.count
     }
 
     /// The console of the selected port. None exactly where no port is selected. There is one console, which was given to
@@ -88,9 +108,16 @@ impl Switch {
         ensures gives { (rules : RuleSet) (past : List Seen) → StandsFor rules self.old past
             → gives_of (seen event.now) turn.new ≡ gives_at rules (seen event.now) past }
         ensures served { self.new.served ≡ self.old.served + 1 }
+        ensures visits { self.new.visits ≡ visits_after (happening_of event.now.what) self.old.visits }
         ensures ports { port_total self.new ≡ port_total self.old }
     {
-        serve(&mut self.ports, &mut self.front, event, turn);
+        serve(
+            &mut self.ports,
+            &mut self.front,
+            &mut self.visits,
+            event,
+            turn,
+        );
         self.served += 1;
     }
 }
@@ -98,10 +125,13 @@ impl Switch {
 /// Serves one event. The turn is begun in each case by itself: so the first that is asked is what the event is, which the
 /// compiler joins with how the reader made it.
 #[inline(always)]
-fn serve(ports: &mut Ports, front: &mut Front, event: &Event, turn: &mut Turn)
+fn serve(ports: &mut Ports, front: &mut Front, visits: &mut Visits, event: &Event, turn: &mut Turn)
     requires known { HappensWithin (port_count ports.old) (happening_of event.now.what) }
     requires within { FrontWithin (u32.MAX - 1) front.old }
     requires gives { give_count ports.old.seat < u32.MAX }
+    requires visits { visits.old.count < u32.MAX }
+    ensures visits { visits.new ≡ visits_after (happening_of event.now.what) visits.old }
+    ensures few_visits { visits.new.count ≤ visits.old.count + 1 }
     ensures count { port_count ports.new ≡ port_count ports.old }
     ensures few { give_count ports.new.seat ≤ give_count ports.old.seat + 1 }
     ensures ports { (rules : RuleSet) (past : List Seen) → PartsStand rules ports.old front.old past
@@ -122,6 +152,7 @@ fn serve(ports: &mut Ports, front: &mut Front, event: &Event, turn: &mut Turn)
     match &event.what {
         What::Port(port, side, act) => {
             turn.begin();
+            visits.act_at(*port);
             match side {
                 Side::Km => ports.answer(tick, *port, act, &mut turn.answer),
                 Side::Ua => front.answer(*port, act, &mut turn.answer, &mut turn.orders),

@@ -1,0 +1,4 @@
+mod Examples
+mod Reordering
+mod Sorting
+mod Visiting

@@ -1,0 +1,16 @@
+-- The job of an act is the only order of its turn.
+use Rattle.std.proofs.Common.{List, ◌++◌, ap, ◌∙◌}
+use Rattle.psd_base.specs.declared.console.Order.{Order}
+use Rattle.switch_core.specs.Gives.{Gives}
+use Rattle.firmware_loop.specs.declared.timed_job.TimedJob.{TimedJob}
+use Rattle.firmware_loop.specs.Batches.{first_job}
+use Rattle.firmware_loop.proofs.Reordering.{first_job-act}
+use Rattle.firmware_loop.proofs.serving.serve_act.Goals as goal
+
+pub returns-clause-jobs : goal.returns-clause-jobs
+returns-clause-jobs c = λ rules past stands.
+    let event = c.args.event.now in
+    c.keep_job.ensures.jobs
+    ∙ ap (λ (orders : List Order). c.args.jobs.now ++ first_job event.tick orders)
+    (c.as_slice.ensures ∙ ap (λ (gives : Gives). gives.orders) (c.step.ensures.gives rules past stands))
+    ∙ ap (λ (jobs : List TimedJob). c.args.jobs.now ++ jobs) (first_job-act rules event.tick event.port event.side event.act past)
