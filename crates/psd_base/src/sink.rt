@@ -114,6 +114,7 @@ impl<F: Write + Drop> Sink<F> {
     /// Lets these bytes wait, and answers whether it could: the outlet is open, and there is room for them.
     #[inline(always)]
     pub fn hold(&mut self, bytes: &[u8]) -> bool
+        ensures fits { IsOpen self.old → length (waiting_in self.old) + length bytes.now ≤ room_in self.old → IsTrue result }
         ensures held { IsTrue result → IsOpen self.new × (waiting_in self.new ≡ waiting_in self.old ++ bytes.now) }
         ensures room { room_in self.new ≡ room_in self.old }
         ensures refused { result ≡ false → self.new ≡ self.old }
