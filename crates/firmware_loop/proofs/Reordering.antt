@@ -12,16 +12,17 @@ use Rattle.psd_base.specs.Event.{Seen}
 use Rattle.psd_base.specs.History.{onto}
 use Rattle.peripheral_filter.specs.declared.rule.RuleSet.{RuleSet}
 use Rattle.token_plug.specs.Acts.{job_orders}
-use Rattle.km_port.specs.Concerns.{Item, Own}
-use Rattle.km_port.specs.OnePort.{line_of}
-use Rattle.km_port.specs.TokenConnector.{job_to}
-use Rattle.switch_core.specs.Commuting.{SameWords, acts}
-use Rattle.switch_core.specs.FrontEvents.{front_of}
-use Rattle.switch_core.specs.Lines.{line_at}
+use Rattle.port_model.specs.Concerns.{Item, Own}
+use Rattle.port_model.specs.OnePort.{line_of}
+use Rattle.port_model.specs.TokenConnector.{job_to}
+use Rattle.switch_core.specs.Commuting.{SameWords}
+use Rattle.port_model.specs.Independence.{acts}
+use Rattle.port_model.specs.FrontEvents.{front_of}
+use Rattle.port_model.specs.Lines.{line_at}
 use Rattle.switch_core.specs.Orders.{act_orders, in_life, orders_at}
-use Rattle.switch_core.specs.Token.{token_life, token_port}
-use Rattle.switch_core.specs.View.{only_if, stamped, view}
-use Rattle.switch_core.proofs.Handing.{other_number, same_number}
+use Rattle.port_model.specs.Token.{token_life, token_port}
+use Rattle.port_model.specs.View.{only_if, stamped, view}
+use Rattle.port_model.proofs.Numbers.{other_number, same_number}
 use Rattle.switch_core.proofs.Owning.{jobs_are_the_owners}
 use Rattle.firmware_loop.specs.declared.batch.PortEvent.{PortEvent}
 use Rattle.firmware_loop.specs.declared.timed_job.TimedJob.{TimedJob}

@@ -4,7 +4,7 @@ use Rattle.std.proofs.lemmas.Bool.Decides.{eqb_tells, leb_tells}
 use Rattle.std.proofs.lemmas.List.{append-nil, take-append-drop, take_more}
 use Rattle.psd_base.specs.declared.port.TheConstants.{MAX_PORTS}
 use Rattle.psd_base.specs.Port.{IsPort}
-use Rattle.switch_core.proofs.Handing.{other_number, same_number}
+use Rattle.port_model.proofs.Numbers.{other_number, same_number}
 use Rattle.firmware_loop.specs.declared.batch.PortEvent.{PortEvent}
 use Rattle.firmware_loop.specs.Batches.{AreActsOfPorts, at_port, by_lanes, kept_if, one_if_some, ports_with_acts}
 

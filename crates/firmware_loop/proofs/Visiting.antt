@@ -2,9 +2,9 @@
 use Rattle.std.proofs.Common.{◌≡◌, ◌≢◌, ℕ, ◌+◌, ◌≤◌, Bool, true, false, List, [], ◌∷◌, ◌++◌, Option, Some, refl, sym, ap, ◌∙◌, subst, arith, ◌==◌, if◌then◌else◌}
 use Rattle.std.proofs.lemmas.List.{append-nil}
 use Rattle.switch_core.specs.declared.visits.Visits.{Visits}
-use Rattle.switch_core.specs.Chosen.{is_at}
+use Rattle.port_model.specs.Chosen.{is_at}
 use Rattle.switch_core.specs.Visits.{visited}
-use Rattle.switch_core.proofs.Handing.{same_number}
+use Rattle.port_model.proofs.Numbers.{same_number}
 use Rattle.switch_core.proofs.Owning.{at-port}
 use Rattle.firmware_loop.specs.declared.batch.PortEvent.{PortEvent}
 use Rattle.firmware_loop.specs.Batches.{at_port, kept_if, one_if_some}

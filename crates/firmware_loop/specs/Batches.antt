@@ -7,7 +7,7 @@ use Rattle.psd_base.specs.declared.line.Line.{Line}
 use Rattle.psd_base.specs.Event.{PortActs, Seen}
 use Rattle.psd_base.specs.Port.{IsPort}
 use Rattle.peripheral_filter.specs.declared.rule.RuleSet.{RuleSet}
-use Rattle.switch_core.specs.Lines.{line_at}
+use Rattle.port_model.specs.Lines.{line_at}
 use Rattle.switch_core.specs.Orders.{orders_at}
 use Rattle.firmware_loop.specs.declared.batch.PortEvent.{PortEvent}
 use Rattle.firmware_loop.specs.declared.timed_job.TimedJob.{TimedJob}

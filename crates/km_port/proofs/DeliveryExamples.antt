@@ -16,10 +16,10 @@ use Rattle.emulated_mouse.specs.Delivery as pointer
 use Rattle.emulated_mouse.specs.Descriptors.{mouse_descriptor}
 use Rattle.emulated_mouse.specs.Motion.{piece}
 use Rattle.emulated_mouse.specs.Report.{report}
-use Rattle.km_port.specs.Concerns.{Item, item, Own, Wakes, Selects, Leaves, Keys, Pointer}
+use Rattle.port_model.specs.Concerns.{Item, item, Own, Wakes, Selects, Leaves, Keys, Pointer}
 use Rattle.km_port.specs.Delivery.{acknowledged_keys, keys_read, pointer_read, never_repeats}
-use Rattle.km_port.specs.Descriptors.{device_descriptor}
-use Rattle.km_port.specs.OnePort.{answer_to}
+use Rattle.port_model.specs.Descriptors.{device_descriptor}
+use Rattle.port_model.specs.OnePort.{answer_to}
 use Rattle.km_port.specs.Reports.{flags, keys_in, report_in}
 
 -- the computer configures its device, and its port is selected

@@ -1,6 +1,6 @@
 -- Delivery after every view of a port.
 use Rattle.std.proofs.Common.{List}
-use Rattle.km_port.specs.Concerns.{Item}
+use Rattle.port_model.specs.Concerns.{Item}
 use Rattle.km_port.specs.Delivery.{Delivery}
 use Rattle.km_port.proofs.KeyDelivery.{keys_read-all, keys_owed-all, keys_up-all}
 use Rattle.km_port.proofs.PointerDelivery.{pointer_read-all, pointer_owed-all, buttons_up-all}

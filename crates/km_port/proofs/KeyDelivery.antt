@@ -14,9 +14,9 @@ use Rattle.emulated_keyboard.specs.KeyboardHistory.{KeyboardEntry}
 use Rattle.emulated_keyboard.proofs.ApartLaws.{release_read-all}
 use Rattle.emulated_keyboard.proofs.ReadingLaws.{reads_accepted-all, read_all-all}
 use Rattle.emulated_keyboard.proofs.RepeatLaws.{all_by_change-all}
-use Rattle.km_port.specs.Concerns.{Item, is_live}
+use Rattle.port_model.specs.Concerns.{Item, is_live}
 use Rattle.km_port.specs.Delivery.{keys_accepted, changes_from, telling_from, fresh_keys, keys_read, telling, KeysRead}
-use Rattle.km_port.specs.OnePort.{parts_of, key_sides, answer_to}
+use Rattle.port_model.specs.OnePort.{parts_of, key_sides, answer_to}
 use Rattle.km_port.specs.Reading.{Seen, keyboard, is_selected, seen, last_read, waiting, acknowledged, owed, fresh, BeginsWith}
 use Rattle.km_port.proofs.KeyAgrees.{Agrees, shown_in, made_here}
 use Rattle.km_port.proofs.KeyRates.{never_repeats-told}

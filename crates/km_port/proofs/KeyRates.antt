@@ -15,15 +15,15 @@ use Rattle.emulated_keyboard.specs.HostReading as host
 use Rattle.emulated_keyboard.specs.KeyboardHistory as history
 use Rattle.emulated_keyboard.specs.KeyboardHistory.{KeyboardEntry, idle_rate}
 use Rattle.emulated_keyboard.specs.declared.keyboard.TheConstants as keyboard_constants
-use Rattle.km_port.specs.Asked.{keys_with, keys_asked}
-use Rattle.km_port.specs.Concerns.{Concern, Own, Wakes, Darkens, Selects, Leaves, Keys, Pointer, Token, Item, item}
+use Rattle.port_model.specs.Asked.{keys_with, keys_asked}
+use Rattle.port_model.specs.Concerns.{Concern, Own, Wakes, Darkens, Selects, Leaves, Keys, Pointer, Token, Item, item}
 use Rattle.km_port.specs.Delivery.{begins_span, never_repeats}
-use Rattle.km_port.specs.OnePort.{Parts, parts_of, km_act, key_sides, with_key_effect, with_control_act, with_poll, with_km_act}
-use Rattle.km_port.specs.Polled.{polled_by}
+use Rattle.port_model.specs.OnePort.{Parts, parts_of, km_act, key_sides, with_key_effect, with_control_act, with_poll, with_km_act}
+use Rattle.port_model.specs.Polled.{polled_by}
 use Rattle.km_port.specs.Reading.{is_selected}
 use Rattle.km_port.specs.Told.{keyboard_told}
-use Rattle.km_port.specs.declared.polled.Polled.{Polled}
-use Rattle.km_port.specs.declared.polled.Polled.TheVariants.{Nothing, Halted, Keyboard, Mouse}
+use Rattle.port_model.specs.declared.polled.Polled.{Polled}
+use Rattle.port_model.specs.declared.polled.Polled.TheVariants.{Nothing, Halted, Keyboard, Mouse}
 use Rattle.km_port.proofs.KmFunctionLaws.{written_or_kept}
 use Rattle.km_port.proofs.Showing.{shown-keyboard}
 use Rattle.km_port.proofs.Sides.{keyboard-effect, keys_asked-entered}

@@ -13,10 +13,10 @@ use Rattle.emulated_keyboard.specs.Delivery as typed
 use Rattle.emulated_keyboard.specs.KeyboardHistory as history
 use Rattle.emulated_keyboard.specs.KeyboardHistory.{KeyboardEntry}
 use Rattle.emulated_keyboard.specs.declared.keyboard.TheConstants as keyboard_constants
-use Rattle.km_port.specs.Asked.{keys_with, keys_asked}
-use Rattle.km_port.specs.Concerns.{Item, is_live}
-use Rattle.km_port.specs.OnePort.{Parts, km_act, key_sides, with_key_effect, with_poll, poll_answer}
-use Rattle.km_port.specs.Polled.{key_answer, key_report_selected, key_report_apart}
+use Rattle.port_model.specs.Asked.{keys_with, keys_asked}
+use Rattle.port_model.specs.Concerns.{Item, is_live}
+use Rattle.port_model.specs.OnePort.{Parts, km_act, key_sides, with_key_effect, with_poll, poll_answer}
+use Rattle.port_model.specs.Polled.{key_answer, key_report_selected, key_report_apart}
 use Rattle.km_port.specs.Reading.{Seen, Chosen, Left, keyboard, is_selected, with_answer, with_effect, seen}
 use Rattle.km_port.specs.Told.{keyboard_told}
 use Rattle.km_port.proofs.KeyAgrees.{Agrees, answered, answered_apart, agrees-new, chosen, parted, restarted, dropped}

@@ -28,12 +28,13 @@ use Rattle.emulated_mouse.specs.MouseSteps.{requested_step}
 use Rattle.emulated_mouse.specs.declared.descriptors.TheConstants.{MOUSE_HID, MOUSE_REPORT}
 use Rattle.emulated_mouse.specs.declared.mouse.TheConstants.{INTERFACE as MOUSE_INTERFACE}
 use Rattle.emulated_mouse.specs.declared.report.Report.{Report}
-use Rattle.km_port.specs.declared.descriptors.TheConstants.{CONFIGURATION}
-use Rattle.km_port.specs.Descriptors.{device_descriptor, km_descriptor}
+use Rattle.port_model.specs.declared.descriptors.TheConstants.{CONFIGURATION}
+use Rattle.port_model.specs.Descriptors.{device_descriptor, km_descriptor}
 use Rattle.emulated_keyboard.specs.Descriptors.{keyboard_descriptor}
 use Rattle.emulated_mouse.specs.Descriptors.{mouse_descriptor}
 use Rattle.km_port.specs.declared.km_function.KmFunction.{KmFunction}
-use Rattle.km_port.specs.KmFunction.{class_answer, after_class_request, with_mouse_request, with_mouse_class_request, mouse_read_for, mouse_answer_after, class_answer_after, keyboard_with_completed, mouse_with_completed}
+use Rattle.km_port.specs.KmFunction.{class_answer, after_class_request, with_mouse_request, with_mouse_class_request, keyboard_with_completed, mouse_with_completed}
+use Rattle.port_model.specs.ClassRequests.{mouse_read_for, mouse_answer_after, class_answer_after}
 
 -- the HID descriptors of the configuration are those that the interfaces answer
 keyboard_hid-is : slice_range CONFIGURATION 18 27 ≡ KEYBOARD_HID

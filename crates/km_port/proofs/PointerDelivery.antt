@@ -13,9 +13,9 @@ use Rattle.emulated_mouse.specs.MouseHistory as history
 use Rattle.emulated_mouse.specs.declared.report.Report.{Report}
 use Rattle.emulated_mouse.proofs.OrderLaws.{reads_in_order-all}
 use Rattle.emulated_mouse.proofs.ReadLaws.{reads_accepted-all, reads_all-all, reads_owed-all}
-use Rattle.km_port.specs.Concerns.{Item, is_live}
+use Rattle.port_model.specs.Concerns.{Item, is_live}
 use Rattle.km_port.specs.Delivery.{pointer_accepted, pointer_read, PointerRead}
-use Rattle.km_port.specs.OnePort.{parts_of, pointer_sides, answer_to}
+use Rattle.port_model.specs.OnePort.{parts_of, pointer_sides, answer_to}
 use Rattle.km_port.specs.Reading.{mouse, is_selected, seen, last_read, acknowledged, owed, BeginsWith}
 use Rattle.km_port.proofs.PointerAgrees.{Agrees}
 use Rattle.km_port.proofs.PointerViews.{pointer_agrees}

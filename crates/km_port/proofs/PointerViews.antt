@@ -14,10 +14,10 @@ use Rattle.emulated_mouse.specs.MouseHistory as history
 use Rattle.emulated_mouse.specs.MouseHistory.{MouseEntry}
 use Rattle.emulated_mouse.specs.declared.mouse.TheConstants as mouse_constants
 use Rattle.emulated_mouse.specs.declared.report.Report.{Report}
-use Rattle.km_port.specs.Asked.{pointer_with, pointer_asked}
-use Rattle.km_port.specs.Concerns.{Item, is_live}
-use Rattle.km_port.specs.OnePort.{Parts, km_act, pointer_sides, with_pointer_effect, with_poll, poll_answer}
-use Rattle.km_port.specs.Polled.{pointer_answer, pointer_report_selected, pointer_report_apart}
+use Rattle.port_model.specs.Asked.{pointer_with, pointer_asked}
+use Rattle.port_model.specs.Concerns.{Item, is_live}
+use Rattle.port_model.specs.OnePort.{Parts, km_act, pointer_sides, with_pointer_effect, with_poll, poll_answer}
+use Rattle.port_model.specs.Polled.{pointer_answer, pointer_report_selected, pointer_report_apart}
 use Rattle.km_port.specs.Reading.{Seen, Chosen, Left, mouse, is_selected, with_answer, with_effect, seen}
 use Rattle.km_port.specs.Told.{mouse_told}
 use Rattle.km_port.proofs.KmFunctionLaws.{written_or_kept}

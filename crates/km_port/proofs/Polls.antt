@@ -18,11 +18,11 @@ use Rattle.emulated_mouse.specs.MouseHistory as mouse
 use Rattle.emulated_mouse.specs.declared.given.Given as pointer_given
 use Rattle.emulated_mouse.specs.declared.given.Given.TheVariants as pointer_case
 use Rattle.emulated_mouse.specs.declared.report.Report.{Report}
-use Rattle.km_port.specs.Concerns.{Concern, Own, Wakes, Darkens, Selects, Leaves, Keys, Pointer, Token, Item, item, is_live}
-use Rattle.km_port.specs.OnePort.{parts_of, key_sides, pointer_sides, poll_answer, km_answer, answer_to}
-use Rattle.km_port.specs.Polled.{key_answer, key_report_selected, key_report_apart, pointer_answer, pointer_report_selected, pointer_report_apart}
+use Rattle.port_model.specs.Concerns.{Concern, Own, Wakes, Darkens, Selects, Leaves, Keys, Pointer, Token, Item, item, is_live}
+use Rattle.port_model.specs.OnePort.{parts_of, key_sides, pointer_sides, poll_answer, km_answer, answer_to}
+use Rattle.port_model.specs.Polled.{key_answer, key_report_selected, key_report_apart, pointer_answer, pointer_report_selected, pointer_report_apart}
 use Rattle.km_port.specs.Reading.{Seen, Chosen, Left, Reader, is_selected, effect_of, with_act, with_effect, acknowledged, seen}
-use Rattle.km_port.specs.declared.polled.Polled.TheVariants.{Nothing, Halted, Keyboard, Mouse}
+use Rattle.port_model.specs.declared.polled.Polled.TheVariants.{Nothing, Halted, Keyboard, Mouse}
 
 -- the cases in which an emulation answers NAK
 key_nak : (given : key_given.Given) (toggle : Bool) (shown : List Bool) → keyboard.answer_of given toggle shown ≡ answer.Nak → given ≡ key_case.Nothing

@@ -10,11 +10,11 @@ use Rattle.psd_base.specs.declared.act.Side.TheVariants.{Km, Ua}
 use Rattle.psd_base.specs.declared.sample.Sample.{Sample}
 use Rattle.control_pipe.specs.Control.{address_after, is_configured_after, is_halted_after, control_answer, control_effect, is_control_act}
 use Rattle.control_pipe.specs.declared.reaction.Effect.TheVariants as effect
-use Rattle.km_port.specs.Concerns.{Concern, Own, Wakes, Darkens, Selects, Leaves, Keys, Pointer, Token, Item, item, is_live}
-use Rattle.km_port.specs.OnePort.{Parts, fresh_parts, parts_of, km_act, with_control_act, with_poll, with_km_act, with_part, poll_answer, km_answer}
+use Rattle.port_model.specs.Concerns.{Concern, Own, Wakes, Darkens, Selects, Leaves, Keys, Pointer, Token, Item, item, is_live}
+use Rattle.port_model.specs.OnePort.{Parts, fresh_parts, parts_of, km_act, with_control_act, with_poll, with_km_act, with_part, poll_answer, km_answer}
 use Rattle.km_port.specs.Reading.{Reader, Seen, Chosen, Left, is_selected, effect_of, with_answer, with_act, with_effect, seen}
-use Rattle.km_port.specs.declared.polled.Polled.{Polled}
-use Rattle.km_port.specs.declared.polled.Polled.TheVariants.{Nothing, Halted, Keyboard, Mouse}
+use Rattle.port_model.specs.declared.polled.Polled.{Polled}
+use Rattle.port_model.specs.declared.polled.Polled.TheVariants.{Nothing, Halted, Keyboard, Mouse}
 
 -- a poll by the tests on which it depends: whether it names the device, which endpoint it names, and which is halted
 abbrev pub polled_in : Bool → Bool → Bool → Bool → Bool → Bool → Polled

@@ -9,7 +9,7 @@ use Rattle.emulated_mouse.specs.Delivery as moved
 use Rattle.emulated_mouse.specs.MouseHistory.{MouseEntry}
 use Rattle.emulated_mouse.specs.MouseHistory as mouse
 use Rattle.emulated_mouse.specs.MouseStands.{MouseStands}
-use Rattle.km_port.specs.Concerns.{Item, item, Keys, Pointer}
+use Rattle.port_model.specs.Concerns.{Item, item, Keys, Pointer}
 use Rattle.km_port.specs.PortStands.{LiveStands}
 use Rattle.km_port.specs.declared.port.Port.{Port}
 use Rattle.km_port.specs.declared.port.Live.{Live}

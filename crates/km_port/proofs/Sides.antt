@@ -17,10 +17,10 @@ use Rattle.emulated_keyboard.specs.declared.keyboard.TheConstants as keyboard_co
 use Rattle.emulated_mouse.specs.Delivery as moved
 use Rattle.emulated_mouse.specs.MouseHistory as mouse
 use Rattle.emulated_mouse.specs.declared.mouse.TheConstants as mouse_constants
-use Rattle.km_port.specs.Asked.{keys_with, pointer_with, keys_asked, pointer_asked}
+use Rattle.port_model.specs.Asked.{keys_with, pointer_with, keys_asked, pointer_asked}
 use Rattle.km_port.specs.ConsoleStands.{keys_flushed, pointer_flushed}
 use Rattle.km_port.specs.KmFunction.{with_mouse_request, keyboard_with_completed, mouse_with_completed}
-use Rattle.km_port.specs.OnePort.{with_key_effect, with_pointer_effect}
+use Rattle.port_model.specs.OnePort.{with_key_effect, with_pointer_effect}
 use Rattle.km_port.specs.Told.{keyboard_told, mouse_told}
 use Rattle.km_port.proofs.KmFunctionLaws.{written_or_kept}
 

@@ -12,8 +12,8 @@ use Rattle.emulated_keyboard.specs.KeyboardHistory as keyboard
 use Rattle.emulated_mouse.specs.MouseHistory as mouse
 use Rattle.emulated_keyboard.specs.Delivery as typed
 use Rattle.emulated_mouse.specs.Delivery as moved
-use Rattle.km_port.specs.Concerns.{Item}
-use Rattle.km_port.specs.OnePort.{Parts, parts_of}
+use Rattle.port_model.specs.Concerns.{Item}
+use Rattle.port_model.specs.OnePort.{Parts, parts_of}
 use Rattle.km_port.specs.declared.console.Console.{Console}
 use Rattle.km_port.specs.declared.console.Vacant.{Vacant}
 use Rattle.km_port.specs.declared.console.Owned.{Owned}

@@ -16,8 +16,8 @@ use Rattle.emulated_keyboard.specs.KeyboardHistory.{idle_rate}
 use Rattle.emulated_mouse.specs.Delivery.{ReadInOrder}
 use Rattle.emulated_mouse.specs.HostReading.{reports_of, is_of_button}
 use Rattle.emulated_mouse.specs.declared.report.Report.{Report}
-use Rattle.km_port.specs.Concerns.{Concern, Own, Wakes, Darkens, Selects, Leaves, Item}
-use Rattle.km_port.specs.OnePort.{key_sides, pointer_sides, answer_to}
+use Rattle.port_model.specs.Concerns.{Concern, Own, Wakes, Darkens, Selects, Leaves, Item}
+use Rattle.port_model.specs.OnePort.{key_sides, pointer_sides, answer_to}
 use Rattle.km_port.specs.Reading.{keyboard, mouse, is_selected, effect_of, seen, last_read, acknowledged, owed, fresh, BeginsWith}
 
 -- what the port accepted in the span, of the keys that were shown and of the samples, oldest first

@@ -10,9 +10,10 @@ use Rattle.control_pipe.specs.Requests.{request_of, function_for}
 use Rattle.control_pipe.specs.Transfer.{Transfer, received}
 use Rattle.emulated_keyboard.specs.KeyboardHistory.{KeyboardEntry}
 use Rattle.emulated_keyboard.specs.ClassRequests as keyboard
-use Rattle.emulated_mouse.specs.MouseHistory.{MouseEntry, Requested, read_answer}
+use Rattle.emulated_mouse.specs.MouseHistory.{MouseEntry, Requested}
 use Rattle.emulated_mouse.specs.ClassRequests as mouse
 use Rattle.emulated_mouse.specs.declared.mouse.TheConstants.{INTERFACE as MOUSE_INTERFACE}
+use Rattle.port_model.specs.ClassRequests.{takes_class_request}
 use Rattle.km_port.specs.declared.km_function.KmFunction.{KmFunction}
 
 -- what a class request that reads is answered: by the keyboard, else by the mouse
@@ -20,11 +21,7 @@ abbrev pub class_answer : KmFunction → Setup → Option (List ℕ)
 class_answer value setup =
     option_or (keyboard.class_answer value.keyboard setup) (mouse.class_answer value.mouse setup)
 
--- whether one of them has a class request that writes
-abbrev pub takes_class_request : Setup → Bool
-takes_class_request setup = keyboard.takes_class_request setup || mouse.takes_class_request setup
-
--- what a completed one makes of both; a request of the other interface changes nothing
+-- what a completed one that writes makes of both; a request of the other interface changes nothing
 abbrev pub after_class_request : KmFunction → ℕ → Setup → List ℕ → KmFunction
 after_class_request value tick setup bytes = record {
   keyboard = keyboard.after_class_request value.keyboard tick setup bytes;
@@ -33,25 +30,13 @@ after_class_request value tick setup bytes = record {
 
 -- The same by the calls
 
--- what the calls on the mouse and a completed request come to, and what a setup is answered after them
+-- what the calls on the mouse and a completed request come to
 abbrev pub with_mouse_request : Option HidRequest → List MouseEntry → List MouseEntry
 with_mouse_request None pointer = pointer
 with_mouse_request (Some request) pointer = Requested request ∷ pointer
 
 abbrev pub with_mouse_class_request : Setup → List MouseEntry → List MouseEntry
 with_mouse_class_request setup pointer = with_mouse_request (hid_request MOUSE_INTERFACE setup) pointer
-
-abbrev pub mouse_read_for : Option HidRequest → List MouseEntry → Option (List ℕ)
-mouse_read_for None pointer = None
-mouse_read_for (Some request) pointer = read_answer request pointer
-
-abbrev pub mouse_answer_after : List MouseEntry → Setup → Option (List ℕ)
-mouse_answer_after pointer setup = mouse_read_for (hid_request MOUSE_INTERFACE setup) pointer
-
--- what a setup is answered after the calls on both
-abbrev pub class_answer_after : List KeyboardEntry → List MouseEntry → Setup → Option (List ℕ)
-class_answer_after keys pointer setup =
-    option_or (keyboard.class_answer_after keys setup) (mouse_answer_after pointer setup)
 
 -- The calls on each with what a completed transfer adds: a class request that writes is one more, on the
 -- one whose interface it is of

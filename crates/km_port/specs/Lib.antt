@@ -1,13 +1,7 @@
-pub mod Asked
-pub mod Concerns
 pub mod ConsoleStands
 pub mod Delivery
-pub mod Descriptors
 pub mod KmFunction
-pub mod OnePort
-pub mod Polled
 pub mod PortStands
 pub mod Reading
 pub mod Reports
 pub mod Told
-pub mod TokenConnector

@@ -5,8 +5,8 @@ use Rattle.emulated_keyboard.specs.KeyboardStands.{KeyboardStands}
 use Rattle.emulated_keyboard.specs.Delivery as typed
 use Rattle.emulated_mouse.specs.MouseStands.{MouseStands}
 use Rattle.emulated_mouse.specs.Delivery as moved
-use Rattle.km_port.specs.Concerns.{Item, is_live}
-use Rattle.km_port.specs.OnePort.{Parts, parts_of}
+use Rattle.port_model.specs.Concerns.{Item, is_live}
+use Rattle.port_model.specs.OnePort.{Parts, parts_of}
 use Rattle.km_port.specs.declared.km_function.KmFunction.{KmFunction}
 use Rattle.km_port.specs.declared.port.Port.{Port}
 use Rattle.km_port.specs.declared.port.Live.{Live}

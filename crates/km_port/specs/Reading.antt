@@ -12,8 +12,8 @@ use Rattle.control_pipe.specs.declared.reaction.Effect.{Effect}
 use Rattle.control_pipe.specs.declared.reaction.Effect.TheVariants as effect
 use Rattle.emulated_mouse.specs.Report.{released}
 use Rattle.emulated_mouse.specs.declared.report.Report.{Report}
-use Rattle.km_port.specs.Concerns.{Concern, Own, Wakes, Darkens, Selects, Leaves, Keys, Pointer, Token, Item}
-use Rattle.km_port.specs.OnePort.{parts_of, km_act, answer_to}
+use Rattle.port_model.specs.Concerns.{Concern, Own, Wakes, Darkens, Selects, Leaves, Keys, Pointer, Token, Item}
+use Rattle.port_model.specs.OnePort.{parts_of, km_act, answer_to}
 use Rattle.km_port.specs.Reports.{keys_in, report_in}
 
 -- a reader of an endpoint: how it reads the bytes of a report, which report has nothing pressed, and whether one

@@ -1,14 +1,14 @@
 //! The console that all ports share in turn: the latches of what is typed and moved there.
 ghost use Rattle.std.specs.Prelude.{◌≡◌, ◌+◌, ◌<◌, ◌≤ℤ◌, negsuc, ℕ, List, ◌∷◌, IfOk};
 ghost use Rattle.psd_base.specs.declared.sample.Sample.{Sample};
-ghost use Rattle.km_port.specs.Concerns.{Item, item, Selects, Keys, Pointer};
+ghost use Rattle.port_model.specs.Concerns.{Item, item, Selects, Keys, Pointer};
 ghost use Rattle.input_latch.specs.KeyHistory.{KeyEntry, counts_of as key_counts};
 ghost use Rattle.input_latch.specs.KeyHistory as keys;
 ghost use Rattle.input_latch.specs.KeyLatchStands.{KeyLatchStands};
 ghost use Rattle.input_latch.specs.PointerHistory.{PointerEntry, counts_of as pointer_counts};
 ghost use Rattle.input_latch.specs.PointerHistory as pointer;
 ghost use Rattle.input_latch.specs.PointerLatchStands.{PointerLatchStands};
-ghost use Rattle.km_port.specs.OnePort.{parts_of, key_sides, pointer_sides};
+ghost use Rattle.port_model.specs.OnePort.{parts_of, key_sides, pointer_sides};
 ghost use Rattle.km_port.specs.ConsoleStands.{IsApart, OwnedStands, VacantStands, keys_flushed, pointer_flushed};
 
 use control_pipe::reaction::Effect;

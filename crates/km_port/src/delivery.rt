@@ -4,7 +4,7 @@
 //! and at a completed SET_CONFIGURATION of its keyboard and mouse. The law speaks of the span in which a view ends. A
 //! view that stops earlier is a view too, so the law speaks of each span, and of each moment in it.
 ghost use Rattle.std.specs.Prelude.{List};
-ghost use Rattle.km_port.specs.Concerns.{Item};
+ghost use Rattle.port_model.specs.Concerns.{Item};
 ghost use Rattle.km_port.specs.Delivery.{Delivery};
 
 /// While the port is selected, its computer reads the accepted changes in order and whole, and is answered NAK only

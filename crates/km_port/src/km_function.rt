@@ -1,7 +1,8 @@
 //! The function of the emulated device at a connector: a keyboard and a mouse, each an interface of its own.
 ghost use Rattle.std.specs.Prelude.{◌≡◌, [], refl};
-ghost use Rattle.km_port.specs.Descriptors.{km_descriptor, km_descriptor-short};
-ghost use Rattle.km_port.specs.KmFunction.{class_answer, takes_class_request, after_class_request, taken-short, not_taken};
+ghost use Rattle.port_model.specs.Descriptors.{km_descriptor, km_descriptor-short};
+ghost use Rattle.km_port.specs.KmFunction.{class_answer, after_class_request, taken-short, not_taken};
+ghost use Rattle.port_model.specs.ClassRequests.{takes_class_request};
 
 use crate::descriptors::descriptor;
 use control_pipe::Function;

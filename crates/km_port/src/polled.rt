@@ -1,25 +1,13 @@
-//! Which interrupt endpoint of the emulated keyboard and mouse an act polls.
+//! Which interrupt endpoint of its keyboard and mouse an act at a connector polls.
 ghost use Rattle.std.specs.Prelude.{◌≡◌, List};
 ghost use Rattle.control_pipe.specs.Control.{ControlAct};
 ghost use Rattle.control_pipe.specs.PipeStands.{PipeStands};
-ghost use Rattle.km_port.specs.Polled.{polled_at, polled_by};
+ghost use Rattle.port_model.specs.Polled.{polled_at, polled_by};
 
 use crate::km_function::KmFunction;
 use control_pipe::pipe::Pipe;
+use port_model::polled::Polled;
 use psd_base::act::Act;
-
-/// What a transaction at another endpoint than 0 polls (USB 2.0, 8.5.4).
-#[derive(Clone, Copy, Debug, PartialEq, Eq)]
-pub enum Polled {
-    /// Nothing: it is no IN, the device isn't addressed or not configured, or it has no such endpoint.
-    Nothing,
-    /// An endpoint that is halted.
-    Halted,
-    /// The keyboard, and whether the host acknowledges the answer.
-    Keyboard(bool),
-    /// The mouse, and whether the host acknowledges the answer.
-    Mouse(bool),
-}
 
 /// What an act at another endpoint than 0 polls.
 pub(crate) fn polled_by(pipe: &Pipe<KmFunction>, act: &Act) -> Polled

@@ -2,17 +2,18 @@
 ghost use Rattle.std.specs.Prelude.{◌≡◌, ℕ, Bool, true, false, IsTrue, List, ◌∷◌};
 ghost use Rattle.psd_base.specs.declared.act.Side.TheVariants.{Km};
 ghost use Rattle.control_pipe.specs.Control.{is_control_act, control_answer, control_effect};
-ghost use Rattle.km_port.specs.Concerns.{Item, item, Own, Wakes, Selects, Leaves};
+ghost use Rattle.port_model.specs.Concerns.{Item, item, Own, Wakes, Selects, Leaves};
 ghost use Rattle.km_port.specs.ConsoleStands.{OwnedStands, LatchesStand};
-ghost use Rattle.km_port.specs.OnePort.{Parts, answer_to, km_act, poll_answer, with_control_act, with_poll};
-ghost use Rattle.km_port.specs.Polled.{polled_by};
+ghost use Rattle.port_model.specs.OnePort.{Parts, answer_to, km_act, poll_answer, with_control_act, with_poll};
+ghost use Rattle.port_model.specs.Polled.{polled_by};
 ghost use Rattle.km_port.specs.PortStands.{IsEntered, KmStands, LiveStands};
 
 use crate::console::{Console, Farewell, Owned, Welcome};
 use crate::km_function::KmFunction;
-use crate::polled::{Polled, polled_by};
+use crate::polled::polled_by;
 use control_pipe::pipe::Pipe;
 use control_pipe::reaction::Effect;
+use port_model::polled::Polled;
 use psd_base::act::{Act, Answer};
 use psd_base::event::Tick;
 use psd_base::port::PortId;

@@ -3,7 +3,7 @@ use Rattle.std.proofs.Common.{◌≡◌, ◌≢◌, ℕ, ◌≤◌, inl, inr, Li
 use Rattle.psd_base.specs.Desk.{IsAppendedPart, OnlyReads, OnlyWrites, Told}
 use Rattle.psd_base.specs.History.{onto}
 use Rattle.km_port.proofs.DeliveryLaw.{delivery-all}
-use Rattle.switch_core.specs.View.{view}
+use Rattle.port_model.specs.View.{view}
 use Rattle.switch_core.proofs.Owning.{heard_by_owner_alone, life_is_routed_once}
 use Rattle.switch_core.proofs.Stamping.{life_is_one_ports, lives_are_apart}
 use Rattle.kvm_program.specs.Owned.{Owns}

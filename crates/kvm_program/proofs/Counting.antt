@@ -10,7 +10,7 @@ use Rattle.psd_base.specs.Port.{IsPort}
 use Rattle.peripheral_filter.specs.declared.rule.RuleSet.{RuleSet}
 use Rattle.port_transcript.specs.declared.port.TheConstants.{PORT_LINE_SIZE}
 use Rattle.switch_core.specs.Gives.{Gives, gives_at}
-use Rattle.switch_core.specs.Lines.{line_at}
+use Rattle.port_model.specs.Lines.{line_at}
 use Rattle.kvm_program.specs.declared.tally.Tally.{Tally}
 use Rattle.kvm_program.specs.Log.{is_leave, is_refusal, noted}
 use Rattle.kvm_program.specs.Progress.{Counts, HasRoom}

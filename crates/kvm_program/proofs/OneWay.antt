@@ -6,11 +6,13 @@ use Rattle.psd_base.specs.declared.console.Order.{Order}
 use Rattle.psd_base.specs.Event.{Happening, Seen}
 use Rattle.psd_base.specs.History.{onto}
 use Rattle.peripheral_filter.specs.declared.rule.RuleSet.{RuleSet}
-use Rattle.switch_core.specs.Independence.{but_jobs, is_act, is_act_elsewhere, without}
+use Rattle.switch_core.specs.Independence.{but_jobs}
+use Rattle.port_model.specs.Independence.{is_act, is_act_elsewhere, without}
 use Rattle.switch_core.specs.Notes.{notes_at}
 use Rattle.switch_core.specs.Orders.{orders_at}
-use Rattle.switch_core.specs.View.{view}
-use Rattle.switch_core.proofs.Independence.{console_ignores_acts, same_view_same_lines, view_ignores_others}
+use Rattle.port_model.specs.View.{view}
+use Rattle.switch_core.proofs.Independence.{console_ignores_acts}
+use Rattle.port_model.proofs.Independence.{same_view_same_lines, view_ignores_others}
 use Rattle.kvm_program.specs.Console.{orders_text, power_and_asks_after}
 use Rattle.kvm_program.specs.Log.{log_after, notes_text}
 use Rattle.kvm_program.specs.OneWay.{ConsoleGetsNoActs, LogGetsNoActs, OthersLeaveTranscript, SameViewSameTranscript}

@@ -9,9 +9,9 @@ use Rattle.psd_base.specs.declared.line.Line.{Line}
 use Rattle.psd_base.specs.Event.{Seen, Happening, HappensWithin, PortActs, AtFront}
 use Rattle.peripheral_filter.specs.declared.rule.RuleSet.{RuleSet}
 use Rattle.port_transcript.specs.PortLine.{line_text}
-use Rattle.switch_core.specs.View.{view}
-use Rattle.km_port.specs.OnePort.{one_port_lines, line_of}
-use Rattle.switch_core.specs.Lines.{line_at}
+use Rattle.port_model.specs.View.{view}
+use Rattle.port_model.specs.OnePort.{one_port_lines, line_of}
+use Rattle.port_model.specs.Lines.{line_at}
 use Rattle.switch_core.proofs.Views.{one_port_lines-front}
 use Rattle.kvm_program.specs.Transcript.{lines_text, transcript_after, text_at}
 

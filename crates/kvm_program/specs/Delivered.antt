@@ -4,7 +4,7 @@ use Rattle.psd_base.specs.Event.{Seen}
 use Rattle.psd_base.specs.History.{onto}
 use Rattle.peripheral_filter.specs.declared.rule.RuleSet.{RuleSet}
 use Rattle.km_port.specs.Delivery.{Delivery}
-use Rattle.switch_core.specs.View.{view}
+use Rattle.port_model.specs.View.{view}
 
 -- At each moment of the run: what its port's one-port switch answered so far delivers what was accepted so far.
 abbrev pub Delivers : RuleSet → ℕ → List Seen → Type 0

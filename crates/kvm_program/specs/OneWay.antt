@@ -3,8 +3,8 @@ use Rattle.std.specs.Prelude.{◌≡◌, ℕ, List, []}
 use Rattle.psd_base.specs.Event.{Seen}
 use Rattle.psd_base.specs.History.{onto}
 use Rattle.peripheral_filter.specs.declared.rule.RuleSet.{RuleSet}
-use Rattle.switch_core.specs.Independence.{is_act, is_act_elsewhere, without}
-use Rattle.switch_core.specs.View.{view}
+use Rattle.port_model.specs.Independence.{is_act, is_act_elsewhere, without}
+use Rattle.port_model.specs.View.{view}
 use Rattle.kvm_program.specs.Console.{power_and_asks_of}
 use Rattle.kvm_program.specs.Log.{log_of}
 use Rattle.kvm_program.specs.Transcript.{transcript_of}

@@ -6,8 +6,8 @@ use Rattle.psd_base.specs.Event.{Seen}
 use Rattle.psd_base.specs.declared.line.Line.{Line}
 use Rattle.peripheral_filter.specs.declared.rule.RuleSet.{RuleSet}
 use Rattle.port_transcript.specs.PortLine.{line_text}
-use Rattle.switch_core.specs.View.{view}
-use Rattle.km_port.specs.OnePort.{one_port_lines}
+use Rattle.port_model.specs.View.{view}
+use Rattle.port_model.specs.OnePort.{one_port_lines}
 
 -- the text of a list of lines
 abbrev pub lines_text : List Line → List ℕ

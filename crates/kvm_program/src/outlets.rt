@@ -6,7 +6,7 @@ ghost use Rattle.psd_base.specs.Desk.{OnlyWrites, WriteFailed};
 ghost use Rattle.psd_base.specs.History.{number_of};
 ghost use Rattle.port_transcript.specs.ConsoleLine.{order_text};
 ghost use Rattle.switch_core.specs.Gives.{gives_of};
-ghost use Rattle.switch_core.specs.Lines.{line_with};
+ghost use Rattle.port_model.specs.Lines.{line_with};
 ghost use Rattle.kvm_program.specs.Console.{orders_text};
 ghost use Rattle.kvm_program.specs.Log.{is_leave, is_refusal, notes_text};
 ghost use Rattle.kvm_program.specs.Outlets.{OnlyWritesConsole, OnlyWritesPorts, OnlyWritesTexts, WroteTo, IsTextFault};

@@ -18,13 +18,13 @@ use Rattle.token_plug.specs.Lives.{life_at, slot_calls}
 use Rattle.token_plug.specs.Moments.{Moment}
 use Rattle.token_plug.specs.Routing.{bridge_at, bridged, brought_up, routed_at, up_of}
 use Rattle.token_plug.proofs.Staying.{lives_stay, stays_routed}
-use Rattle.km_port.specs.Concerns.{TokenNews}
-use Rattle.km_port.specs.Concerns as news
-use Rattle.switch_core.specs.Chosen.{is_at}
+use Rattle.port_model.specs.Concerns.{TokenNews}
+use Rattle.port_model.specs.Concerns as news
+use Rattle.port_model.specs.Chosen.{is_at}
 use Rattle.switch_core.specs.Orders.{in_life}
-use Rattle.switch_core.specs.Token.{comes_with, done_news, given_over, moment_news, news_between}
+use Rattle.port_model.specs.Token.{comes_with, done_news, given_over, moment_news, news_between}
 use Rattle.switch_core.specs.Bridges.{bridge_among, bridge_in_life, bridge_over, up_in_life}
-use Rattle.switch_core.proofs.Handing.{other_number, same_number}
+use Rattle.port_model.proofs.Numbers.{other_number, same_number}
 use Rattle.switch_core.proofs.Hearing.{told_over, told_over-append}
 
 -- The number of the life is told in jobs alone

@@ -9,13 +9,13 @@ use Rattle.selector.specs.Choice.{Look, chosen, choice_after, move_of, selected_
 use Rattle.selector.specs.Moments.{Ticked}
 use Rattle.peripheral_filter.specs.declared.rule.RuleSet.{RuleSet}
 use Rattle.psd_base.specs.Event.{TimePasses}
-use Rattle.switch_core.specs.FrontEvents.{FrontEvent, front_event}
-use Rattle.switch_core.specs.Peripherals.{shows_nothing}
-use Rattle.switch_core.specs.FrontHealth.{health_at}
-use Rattle.switch_core.specs.Chosen.{moments_in, selected_at, move_at}
+use Rattle.port_model.specs.FrontEvents.{FrontEvent, front_event}
+use Rattle.port_model.specs.Peripherals.{shows_nothing}
+use Rattle.port_model.specs.FrontHealth.{health_at}
+use Rattle.port_model.specs.Chosen.{moments_in, selected_at, move_at}
 use Rattle.switch_core.specs.Notes.{move_notes, selection_notes, selector_notes}
-use Rattle.switch_core.specs.Token.{late_at, move_moments, selection_moments}
-use Rattle.switch_core.proofs.Handing.{other_number, same_number}
+use Rattle.port_model.specs.Token.{late_at, move_moments, selection_moments}
+use Rattle.port_model.proofs.Numbers.{other_number, same_number}
 
 is_somebody : (port : ℕ) (settled : Bool) → cond settled (Selected port) (Target port) ≢ Nobody
 is_somebody port true same = cc

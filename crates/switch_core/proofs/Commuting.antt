@@ -4,22 +4,24 @@ use Rattle.std.proofs.lemmas.Bool.Decides.{eqb_tells}
 use Rattle.psd_base.specs.Event.{Happening, PortActs, AtFront, Seen}
 use Rattle.peripheral_filter.specs.declared.rule.RuleSet.{RuleSet}
 use Rattle.auth_router.specs.Bridge.{BridgePast}
-use Rattle.km_port.specs.Concerns.{Concern, Own, Item}
-use Rattle.km_port.specs.TokenConnector.{bridge_past}
+use Rattle.port_model.specs.Concerns.{Concern, Own, Item}
+use Rattle.port_model.specs.TokenConnector.{bridge_past}
 use Rattle.switch_core.specs.declared.front.Front.{Front}
 use Rattle.switch_core.specs.declared.ports.Ports.{Ports}
 use Rattle.switch_core.specs.Bridges.{bridge_after, bridge_among, bridge_in_life, bridges_of}
-use Rattle.switch_core.specs.Chosen.{selected_at, selections}
-use Rattle.switch_core.specs.Commuting.{ActsCommute, SameWords, StandsForSame, acts}
-use Rattle.switch_core.specs.FrontEvents.{FrontEvent, front_event, front_of}
+use Rattle.port_model.specs.Chosen.{selected_at, selections}
+use Rattle.switch_core.specs.Commuting.{ActsCommute, SameWords, StandsForSame}
+use Rattle.port_model.specs.Independence.{acts}
+use Rattle.port_model.specs.FrontEvents.{FrontEvent, front_event, front_of}
 use Rattle.switch_core.specs.FrontStands.{FrontStands}
 use Rattle.switch_core.specs.PanelsWithin.{PanelsWithin}
 use Rattle.switch_core.specs.PartsStand.{PartsStand}
 use Rattle.switch_core.specs.PortsStand.{PortsStand, port_count}
 use Rattle.switch_core.specs.SlotStands.{views_of}
-use Rattle.switch_core.specs.Token.{token_life, token_port}
-use Rattle.switch_core.specs.View.{only_if, stamped, view}
-use Rattle.switch_core.proofs.Handing.{SeatStands-same, other_number}
+use Rattle.port_model.specs.Token.{token_life, token_port}
+use Rattle.port_model.specs.View.{only_if, stamped, view}
+use Rattle.switch_core.proofs.Handing.{SeatStands-same}
+use Rattle.port_model.proofs.Numbers.{other_number}
 use Rattle.switch_core.proofs.PortLists.{AllStand-same}
 
 -- The bridge of the port to which the token is routed

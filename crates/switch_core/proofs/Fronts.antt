@@ -13,10 +13,10 @@ use Rattle.fail_secure.specs.HealthChange.{is_alive}
 use Rattle.fail_secure.specs.declared.health.TheConstants.{ALL_CHECKS}
 use Rattle.selector.specs.Moments.{Moment, Moved, Ticked}
 use Rattle.selector.specs.Panel.{guard_told, button_told, is_guard_down, is_button_down, ports_down, are_buttons_up, numbers_from, is_empty}
-use Rattle.switch_core.specs.FrontEvents.{FrontEvent, front_event}
-use Rattle.switch_core.specs.Peripherals.{shows_nothing}
-use Rattle.switch_core.specs.FrontHealth.{IsKnownCheck, checks_in, health_at, panel_moves}
-use Rattle.switch_core.specs.Chosen.{moments_in}
+use Rattle.port_model.specs.FrontEvents.{FrontEvent, front_event}
+use Rattle.port_model.specs.Peripherals.{shows_nothing}
+use Rattle.port_model.specs.FrontHealth.{IsKnownCheck, checks_in, health_at, panel_moves}
+use Rattle.port_model.specs.Chosen.{moments_in}
 
 -- what moves alone tell is told by the moments from which the selection is found
 newest-moves : (rules : RuleSet) (told : Moment → Option Bool) → ((tick : ℕ) (all_up : Bool) → told (Ticked tick all_up) ≡ None)

@@ -4,25 +4,20 @@ use Rattle.std.proofs.lemmas.Bool.Decides.{eqb_tells}
 use Rattle.psd_base.specs.declared.act.Act.{Act}
 use Rattle.psd_base.specs.declared.act.Side.{Side}
 use Rattle.psd_base.specs.declared.act.Side.TheVariants.{Ua}
-use Rattle.km_port.specs.Concerns.{Concern, Own, Selects, Leaves, Item, item}
+use Rattle.port_model.specs.Concerns.{Concern, Own, Selects, Leaves, Item, item}
 use Rattle.km_port.specs.ConsoleStands.{OwnedStands}
-use Rattle.switch_core.specs.Chosen.{is_at}
+use Rattle.port_model.specs.Chosen.{is_at}
 use Rattle.switch_core.specs.PortsStand.{PortsStand}
 use Rattle.switch_core.specs.SeatStands.{SeatStands}
 use Rattle.switch_core.specs.declared.ports.Ports.{Ports}
-use Rattle.switch_core.specs.View.{stamped, only_if}
+use Rattle.port_model.specs.View.{stamped, only_if}
+use Rattle.port_model.proofs.Numbers.{other_number, same_number}
 use Rattle.switch_core.specs.Views.{acted, given_to, left_by, selected_to, shown_to}
 use Rattle.switch_core.specs.SlotStands.{AllStand, SlotStands}
 use Rattle.switch_core.specs.declared.slot.Slot.{Slot}
 use Rattle.switch_core.specs.declared.slot.Slot.TheVariants as slot
 use Rattle.switch_core.specs.declared.seat.Seat.{Seat}
 use Rattle.switch_core.specs.declared.seat.Seat.TheVariants as seat
-
-pub same_number : (number : ℕ) → nat_eq number number ≡ true
-same_number number = elim (eqb_tells number number) [ inl is ↦ is.0 | inr is ↦ absurd (is.1 refl) ]
-
-pub other_number : (first second : ℕ) → first ≢ second → nat_eq first second ≡ false
-other_number first second apart = elim (eqb_tells first second) [ inl is ↦ absurd (apart is.1) | inr is ↦ is.0 ]
 
 -- an act concerns its own port alone
 pub acted-own : (tick port : ℕ) (side : Side) (act : Act) (views : ℕ → List Item) → acted tick port side act views port ≡ item tick (Own side act) ∷ views port

@@ -1,14 +1,14 @@
 -- What a port hears of the token leaves its keyboard and mouse as they are.
 use Rattle.std.proofs.Common.{◌≡◌, ℕ, ◌+◌, List, [], ◌∷◌, ◌++◌, Option, refl, sym, subst}
-use Rattle.km_port.specs.Concerns.{TokenNews, Token, Item, item, is_live}
+use Rattle.port_model.specs.Concerns.{TokenNews, Token, Item, item, is_live}
 use Rattle.km_port.specs.ConsoleStands.{LatchesStand}
-use Rattle.km_port.specs.OnePort.{Parts, one_port_lines, parts_of}
-use Rattle.km_port.specs.TokenConnector.{bridge_past, with_news}
+use Rattle.port_model.specs.OnePort.{Parts, one_port_lines, parts_of}
+use Rattle.port_model.specs.TokenConnector.{bridge_past, with_news}
 use Rattle.auth_router.specs.Bridge.{BridgePast}
 use Rattle.switch_core.specs.PortsStand.{PortsStand}
 use Rattle.switch_core.specs.SeatStands.{SeatStands}
 use Rattle.switch_core.specs.SlotStands.{SlotStands}
-use Rattle.switch_core.specs.View.{heard}
+use Rattle.port_model.specs.View.{heard}
 use Rattle.switch_core.specs.Views.{heard_by}
 use Rattle.switch_core.specs.declared.ports.Ports.{Ports}
 use Rattle.switch_core.specs.declared.seat.Seat.{Seat}

@@ -23,14 +23,14 @@ use Rattle.token_plug.specs.Lives.{power_at}
 use Rattle.token_plug.specs.Moments.{Moment, Attached, Detached, Replied, Ticked, Woke, Darkened, Left, Selected}
 use Rattle.token_plug.specs.TokenGives as token
 use Rattle.token_plug.specs.TokenGives.{first_asks, next_asks, orders_between}
-use Rattle.km_port.specs.TokenConnector.{job_to}
-use Rattle.switch_core.specs.FrontEvents.{FrontEvent, front_of}
+use Rattle.port_model.specs.TokenConnector.{job_to}
+use Rattle.port_model.specs.FrontEvents.{FrontEvent, front_of}
 use Rattle.switch_core.specs.Independence.{is_job}
 use Rattle.switch_core.specs.Orders.{act_orders, front_orders, in_life}
-use Rattle.switch_core.specs.Peripherals.{moment_at, peripheral_orders, plug_history, plug_orders}
+use Rattle.port_model.specs.Peripherals.{moment_at, peripheral_orders, plug_history, plug_orders}
 use Rattle.switch_core.specs.Stamped.{StampedOrder, stamps, is_power, powers_in}
-use Rattle.switch_core.specs.Token.{given_over, moments_at, token_history, token_life, token_orders}
-use Rattle.switch_core.specs.View.{view}
+use Rattle.port_model.specs.Token.{given_over, moments_at, token_history, token_life, token_orders}
+use Rattle.port_model.specs.View.{view}
 
 -- no order is a job
 abbrev pub NoJobs : List Order → Type 0

@@ -22,12 +22,12 @@ use Rattle.usb_descriptor.specs.Fault.{fault_of, first_fault, total_fault, confi
 use Rattle.usb_descriptor.specs.Setting.{up_to_interface, settings_of}
 use Rattle.usb_descriptor.specs.Tally.{within_after}
 use Rattle.console_plug.specs.Shown.{shown_keys, shown_buttons}
-use Rattle.switch_core.specs.Peripherals.{peripheral_orders, shows_none}
+use Rattle.port_model.specs.Peripherals.{peripheral_orders, shows_none}
 use Rattle.switch_core.specs.Stamped.{stamp, stamped_orders, powers_in}
-use Rattle.switch_core.specs.Token.{token_news, token_orders, token_port}
-use Rattle.switch_core.specs.FrontEvents.{front_event, front_of}
+use Rattle.port_model.specs.Token.{token_news, token_orders, token_port}
+use Rattle.port_model.specs.FrontEvents.{front_event, front_of}
 use Rattle.switch_core.specs.Independence.{is_job}
-use Rattle.km_port.specs.Concerns as news
+use Rattle.port_model.specs.Concerns as news
 
 abbrev no_rules : RuleSet
 no_rules = record { allow = record { items = [] }; deny = record { items = [] } }

@@ -16,17 +16,17 @@ use Rattle.token_plug.specs.Moments.{Moment}
 use Rattle.token_plug.specs.Routing.{routed_at}
 use Rattle.token_plug.proofs.Following.{lives_at, other-life, routed-end, same-life}
 use Rattle.token_plug.proofs.Ownership.{StaysRouted}
-use Rattle.km_port.specs.Concerns.{TokenNews, Item}
-use Rattle.km_port.specs.Concerns as news
+use Rattle.port_model.specs.Concerns.{TokenNews, Item}
+use Rattle.port_model.specs.Concerns as news
 use Rattle.switch_core.specs.Bridges.{bridges_of}
-use Rattle.switch_core.specs.Chosen.{given_after, is_at, selected_at, selections}
-use Rattle.switch_core.specs.FrontEvents.{FrontEvent, front_event, front_of}
-use Rattle.switch_core.specs.FrontHealth.{health_at}
+use Rattle.port_model.specs.Chosen.{given_after, is_at, selected_at, selections}
+use Rattle.port_model.specs.FrontEvents.{FrontEvent, front_event, front_of}
+use Rattle.port_model.specs.FrontHealth.{health_at}
 use Rattle.switch_core.specs.Orders.{act_orders, in_life, orders_at}
-use Rattle.switch_core.specs.Token.{moments_at, token_history, token_life, token_news, token_port}
-use Rattle.switch_core.specs.View.{heard, view}
+use Rattle.port_model.specs.Token.{moments_at, token_history, token_life, token_news, token_port}
+use Rattle.port_model.specs.View.{heard, view}
 use Rattle.switch_core.specs.Ownership.{job_done, HearsAsOwner, HeardByOwnerAlone, MakesJob, JobsAreTheOwners, LifeIsRoutedOnce, JobsOfOneLife, JobsOfTwoLives, JobsOfTwoSelections, NoJobsUnselected, moments_over}
-use Rattle.switch_core.proofs.Handing.{same_number}
+use Rattle.port_model.proofs.Numbers.{same_number}
 use Rattle.switch_core.proofs.Selecting.{selected-alive}
 use Rattle.switch_core.proofs.TokenSelection.{selected-token_port}
 use Rattle.switch_core.proofs.TokenViews.{others_are_down}

@@ -8,13 +8,13 @@ use Rattle.fail_secure.specs.declared.health_change.HealthChange.TheVariants as 
 use Rattle.peripheral_filter.specs.declared.rule.RuleSet.{RuleSet}
 use Rattle.console_plug.specs.Moments.{Moment}
 use Rattle.console_plug.proofs.Powering.{no_power_orders}
-use Rattle.switch_core.specs.FrontEvents.{FrontEvent, front_event}
+use Rattle.port_model.specs.FrontEvents.{FrontEvent, front_event}
 use Rattle.token_plug.specs.Moments as token
 use Rattle.token_plug.specs.TokenGives.{notes_at}
 use Rattle.switch_core.specs.Notes.{front_notes}
 use Rattle.switch_core.specs.Orders.{front_orders}
-use Rattle.switch_core.specs.Token.{change_moments, early_token_notes, given_over, late_token_notes, token_orders}
-use Rattle.switch_core.specs.Peripherals.{change_moment, peripheral_notes, peripheral_orders, plug_notes}
+use Rattle.port_model.specs.Token.{change_moments, early_token_notes, given_over, late_token_notes, token_orders}
+use Rattle.port_model.specs.Peripherals.{change_moment, peripheral_notes, peripheral_orders, plug_notes}
 
 -- where the health changes, the log says nothing of a peripheral
 pub change_notes-none : (own : Plug) (rules : RuleSet) (tick : ℕ) (health : HealthChange) (past : List Moment) → plug_notes own rules (change_moment tick health) past ≡ []

@@ -1,7 +1,7 @@
 -- Lists of ports that stand for their views.
 use Rattle.std.proofs.Common.{◌≡◌, ◌≢◌, ℕ, Bool, zero, suc, ◌+◌, ◌<◌, ◌⊎◌, inl, inr, List, [], ◌∷◌, ◌++◌, length, Some, slice_get, slice_set, slice_index_or, refl, subst, sym, ap, ◌∙◌, arith}
 use Rattle.std.proofs.lemmas.Option.{slice_get-get_or}
-use Rattle.km_port.specs.Concerns.{Item}
+use Rattle.port_model.specs.Concerns.{Item}
 use Rattle.switch_core.specs.declared.slot.Slot.{Slot}
 use Rattle.switch_core.specs.SlotStands.{SlotStands, AllStand}
 use Rattle.switch_core.specs.Wired.{AreWired, IsSlot}

@@ -19,16 +19,16 @@ use Rattle.selector.specs.Choice.{Look, ask_of, looks_in, chosen, chosen_of, cho
 use Rattle.selector.specs.declared.choice.Choice.TheVariants.{Target, Selected}
 use Rattle.selector.specs.Moments.{Moment, Moved, Ticked}
 use Rattle.selector.specs.Panel.{is_button_down, is_guard_down, numbers_from, only_one, is_empty, ports_down, pair_after, pair_since, are_buttons_up}
-use Rattle.switch_core.specs.FrontEvents.{FrontEvent, front_event, front_of}
-use Rattle.switch_core.specs.FrontHealth.{health_at, panel_moves, reports_in, with_report}
-use Rattle.switch_core.specs.Chosen.{given_after, moments_in, selected_at, selections}
+use Rattle.port_model.specs.FrontEvents.{FrontEvent, front_event, front_of}
+use Rattle.port_model.specs.FrontHealth.{health_at, panel_moves, reports_in, with_report}
+use Rattle.port_model.specs.Chosen.{given_after, moments_in, selected_at, selections}
 use Rattle.switch_core.specs.SeatStands.{CanHave}
 use Rattle.switch_core.specs.SlotStands.{views_of}
 use Rattle.fail_secure.specs.declared.health_change.HealthChange.{HealthChange}
 use Rattle.psd_base.specs.Event.{Seen}
 use Rattle.switch_core.specs.PanelsWithin.{PanelsWithin}
-use Rattle.switch_core.specs.Peripherals.{shows_nothing}
-use Rattle.switch_core.proofs.Handing.{same_number}
+use Rattle.port_model.specs.Peripherals.{shows_nothing}
+use Rattle.port_model.proofs.Numbers.{same_number}
 use Rattle.switch_core.proofs.Views.{is_live-view, wakes_from}
 
 -- Before the switch is alive nothing is looked at

@@ -9,14 +9,14 @@ use Rattle.psd_base.specs.declared.console.Order.TheVariants as order
 use Rattle.psd_base.specs.Event.{Happening, PortActs, AtFront, Seen}
 use Rattle.peripheral_filter.specs.declared.rule.RuleSet.{RuleSet}
 use Rattle.token_plug.specs.Acts.{job_orders}
-use Rattle.km_port.specs.TokenConnector.{job_to}
-use Rattle.switch_core.specs.FrontEvents.{FrontEvent, front_event, front_of}
+use Rattle.port_model.specs.TokenConnector.{job_to}
+use Rattle.port_model.specs.FrontEvents.{FrontEvent, front_event, front_of}
 use Rattle.switch_core.specs.Independence.{is_job}
 use Rattle.switch_core.specs.Orders.{front_orders, in_life, orders_at}
 use Rattle.switch_core.specs.Ownership.{MakesJob, moments_over}
 use Rattle.switch_core.specs.Stamped.{StampedOrder, stamp, stamps, stamped_orders, powers_in, LifeIsOnePorts, LivesAreApart, MadeBy}
-use Rattle.switch_core.specs.Token.{token_history, token_life}
-use Rattle.switch_core.specs.View.{view}
+use Rattle.port_model.specs.Token.{token_history, token_life}
+use Rattle.port_model.specs.View.{view}
 use Rattle.switch_core.proofs.Owning.{front-act, jobs_of_one_life, jobs_of_two_lives}
 use Rattle.switch_core.proofs.OrderKinds.{NoJobs, front-jobs}
 use Rattle.switch_core.proofs.TokenPower.{stamped_over, switched_over, events-powers, cycle-in}

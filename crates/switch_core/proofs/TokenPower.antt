@@ -17,13 +17,13 @@ use Rattle.token_plug.specs.Ownership.{begins, tick_of, PowerCycle, StaysOff}
 use Rattle.token_plug.specs.TokenGives as token
 use Rattle.token_plug.specs.TokenGives.{first_asks, next_asks, orders_between}
 use Rattle.token_plug.proofs.Staying.{selected-orders}
-use Rattle.switch_core.specs.Chosen.{is_at}
-use Rattle.switch_core.specs.FrontEvents.{FrontEvent, front_event, front_of}
+use Rattle.port_model.specs.Chosen.{is_at}
+use Rattle.port_model.specs.FrontEvents.{FrontEvent, front_event, front_of}
 use Rattle.switch_core.specs.Orders.{act_orders, front_orders, orders_at}
 use Rattle.switch_core.specs.Ownership.{moments_over}
-use Rattle.switch_core.specs.Peripherals.{peripheral_orders}
+use Rattle.port_model.specs.Peripherals.{peripheral_orders}
 use Rattle.switch_core.specs.Stamped.{StampedOrder, stamp, stamps, powers_in, HasPowerCycle}
-use Rattle.switch_core.specs.Token.{change_moments, chosen_moments, early_at, early_moments, given_over, if_token, late_at, late_moments, left_moments, moments_at, token_history, token_orders}
+use Rattle.port_model.specs.Token.{change_moments, chosen_moments, early_at, early_moments, given_over, if_token, late_at, late_moments, left_moments, moments_at, token_history, token_orders}
 use Rattle.switch_core.proofs.Owning.{front-append, history-over}
 use Rattle.switch_core.proofs.OrderKinds.{powers-none, powers-append, next-none, peripheral-power, act-power}
 

@@ -19,16 +19,16 @@ use Rattle.console_host.specs.Replies.{reply_of}
 use Rattle.token_plug.specs.Lives as token
 use Rattle.token_plug.specs.Moments.{Moment, Attached, Detached, Replied, Ticked}
 use Rattle.token_plug.proofs.Staying.{selected-routed}
-use Rattle.km_port.specs.Concerns.{is_live}
-use Rattle.km_port.specs.OnePort.{answer_to}
-use Rattle.switch_core.specs.Chosen.{is_at, selected_at}
-use Rattle.switch_core.specs.FrontEvents.{FrontEvent, front_event, front_of}
-use Rattle.switch_core.specs.FrontHealth.{health_at}
+use Rattle.port_model.specs.Concerns.{is_live}
+use Rattle.port_model.specs.OnePort.{answer_to}
+use Rattle.port_model.specs.Chosen.{is_at, selected_at}
+use Rattle.port_model.specs.FrontEvents.{FrontEvent, front_event, front_of}
+use Rattle.port_model.specs.FrontHealth.{health_at}
 use Rattle.switch_core.specs.SlotStands.{views_of}
-use Rattle.switch_core.specs.Token.{change_moments, if_token, selection_moments, token_history, token_port}
+use Rattle.port_model.specs.Token.{change_moments, if_token, selection_moments, token_history, token_port}
 use Rattle.switch_core.specs.Bridges.{bridges_of}
-use Rattle.switch_core.specs.View.{view}
-use Rattle.switch_core.proofs.Handing.{other_number, same_number}
+use Rattle.port_model.specs.View.{view}
+use Rattle.port_model.proofs.Numbers.{other_number, same_number}
 use Rattle.switch_core.proofs.Selecting.{selected-Darkens, selected-Stays, selected-Wakes, selected-alive, selected_before-Wakes}
 use Rattle.switch_core.proofs.TokenViews.{others_are_down}
 use Rattle.switch_core.proofs.Views.{is_live-view}

@@ -7,12 +7,12 @@ use Rattle.psd_base.specs.Event.{Seen, Doing, TimePasses, PanelMoves, Attaches, 
 use Rattle.peripheral_filter.specs.declared.rule.RuleSet.{RuleSet}
 use Rattle.auth_router.specs.Bridge.{BridgePast, after_act, after_done}
 use Rattle.token_plug.specs.Acts.{acted_at}
-use Rattle.km_port.specs.Concerns.{TokenNews, Own, Item}
-use Rattle.km_port.specs.TokenConnector.{bridge_past}
-use Rattle.switch_core.specs.FrontEvents.{FrontEvent, front_event, front_of}
-use Rattle.switch_core.specs.Token.{done_news, moments_at, token_history, token_life, token_news, token_port}
+use Rattle.port_model.specs.Concerns.{TokenNews, Own, Item}
+use Rattle.port_model.specs.TokenConnector.{bridge_past}
+use Rattle.port_model.specs.FrontEvents.{FrontEvent, front_event, front_of}
+use Rattle.port_model.specs.Token.{done_news, moments_at, token_history, token_life, token_news, token_port}
 use Rattle.switch_core.specs.Bridges.{bridge_after, bridge_front, bridges_of}
-use Rattle.switch_core.specs.View.{front_concerns, only_if, stamped, view}
+use Rattle.port_model.specs.View.{front_concerns, only_if, stamped, view}
 use Rattle.switch_core.proofs.Bridging.{OthersDown, among-same, bridge-acted, bridge-done, bridge-over, news_over, others_down-acted, others_down-done, others_down-over, told_to}
 use Rattle.switch_core.proofs.Hearing.{bridge_past-heard, told_over, told_over-append}
 use Rattle.switch_core.proofs.Views.{by_front}

@@ -11,20 +11,21 @@ use Rattle.fail_secure.specs.declared.health_change.HealthChange.{HealthChange}
 use Rattle.fail_secure.specs.declared.health_change.HealthChange.TheVariants as change
 use Rattle.psd_base.specs.declared.console.Plug.TheVariants.{Keyboard, Mouse}
 use Rattle.psd_base.specs.declared.sample.Sample.{Sample}
-use Rattle.km_port.specs.Concerns.{Concern, Own, Wakes, Darkens, Selects, Leaves, Keys, Pointer, Item, item, is_live}
-use Rattle.km_port.specs.OnePort.{one_port_lines}
+use Rattle.port_model.specs.Concerns.{Concern, Own, Wakes, Darkens, Selects, Leaves, Keys, Pointer, Item, item, is_live}
+use Rattle.port_model.specs.OnePort.{one_port_lines}
 use Rattle.km_port.proofs.Showing.{LiveStands-Keys, LiveStands-Pointer}
 use Rattle.switch_core.specs.declared.slot.Slot.{Slot}
 use Rattle.switch_core.specs.declared.slot.Slot.TheVariants as slot
 use Rattle.fail_secure.specs.HealthChange.{is_alive, change_of}
-use Rattle.switch_core.specs.FrontEvents.{FrontEvent, front_event, front_of}
-use Rattle.switch_core.specs.FrontHealth.{health_at}
-use Rattle.switch_core.specs.Chosen.{selected_at, is_at}
-use Rattle.switch_core.specs.Peripherals.{moment_at, plug_history}
-use Rattle.switch_core.specs.Shown.{keys_at, keys_concern, pointer_concern, sample_at, shown_at, shown_concerns}
+use Rattle.port_model.specs.FrontEvents.{FrontEvent, front_event, front_of}
+use Rattle.port_model.specs.FrontHealth.{health_at}
+use Rattle.port_model.specs.Chosen.{selected_at, is_at}
+use Rattle.port_model.specs.Peripherals.{moment_at, plug_history}
+use Rattle.switch_core.specs.Shown.{shown_concerns}
+use Rattle.port_model.specs.Shown.{keys_at, keys_concern, pointer_concern, sample_at, shown_at}
 use Rattle.switch_core.specs.declared.shown.Shown.{Shown}
 use Rattle.switch_core.specs.declared.shown.Shown.TheVariants as shown_as
-use Rattle.switch_core.specs.View.{stamped, only_if, only_at, handed, change_concerns, front_concerns, news_at, view}
+use Rattle.port_model.specs.View.{stamped, only_if, only_at, handed, change_concerns, front_concerns, news_at, view}
 use Rattle.switch_core.specs.SlotStands.{SlotStands}
 use Rattle.switch_core.proofs.Hearing.{is_live-heard, one_port_lines-heard}
 

@@ -2,15 +2,15 @@
 use Rattle.std.proofs.Common.{◌≡◌, ◌≢◌, ℕ, ◌+◌, ◌<◌, ◌≤◌, ◌∷◌, Bool, true, false, IsTrue, nat_eq, nat_le, List, length, length-set, Option, None, Some, slice_set, slice_index_or, refl, sym, subst, ap, ◌∙◌, inl, inr, arith}
 use Rattle.std.proofs.lemmas.Bool.{false≢true}
 use Rattle.std.proofs.lemmas.Bool.Decides.{leb_tells}
-use Rattle.km_port.specs.Concerns.{Item, Leaves, Selects, is_live, item}
+use Rattle.port_model.specs.Concerns.{Item, Leaves, Selects, is_live, item}
 use Rattle.km_port.specs.ConsoleStands.{IsApart}
-use Rattle.km_port.specs.OnePort.{parts_of}
+use Rattle.port_model.specs.OnePort.{parts_of}
 use Rattle.km_port.specs.declared.console.Console.{Console}
 use Rattle.km_port.specs.declared.console.Owned.{Owned}
-use Rattle.switch_core.specs.Chosen.{is_at}
+use Rattle.port_model.specs.Chosen.{is_at}
 use Rattle.switch_core.specs.SeatStands.{CanHave}
 use Rattle.switch_core.specs.Shown.{shown_concerns}
-use Rattle.switch_core.specs.View.{only_if, stamped}
+use Rattle.port_model.specs.View.{only_if, stamped}
 use Rattle.switch_core.specs.SlotStands.{AllStand, SlotStands}
 use Rattle.switch_core.specs.Views.{given_to, left_by, shown_to}
 use Rattle.switch_core.specs.Wired.{AreWired, IsSlot, IsTold, IsWired, is_owner, is_seated}
@@ -19,7 +19,8 @@ use Rattle.switch_core.specs.declared.seat.Seat.TheVariants as seat
 use Rattle.switch_core.specs.declared.shown.Shown.{Shown}
 use Rattle.switch_core.specs.declared.slot.Slot.{Slot}
 use Rattle.switch_core.specs.declared.slot.Slot.TheVariants as slot
-use Rattle.switch_core.proofs.Handing.{given_to-other, given_to-own, left_by-other, left_by-own, other_number, same_number}
+use Rattle.switch_core.proofs.Handing.{given_to-other, given_to-own, left_by-other, left_by-own}
+use Rattle.port_model.proofs.Numbers.{other_number, same_number}
 use Rattle.switch_core.proofs.PortLists.{AllStand-put, AreWired-number, AreWired-put, AreWired-same}
 use Rattle.switch_core.proofs.Views.{SlotStands-shown}
 

@@ -6,10 +6,10 @@ use Rattle.auth_router.specs.declared.up.Up.{Up}
 use Rattle.auth_router.specs.Bridge.{BridgePast, IsDown, IsUp}
 use Rattle.token_plug.specs.Moments.{Moment}
 use Rattle.token_plug.specs.Routing.{bridge_at}
-use Rattle.km_port.specs.TokenConnector.{bridge_past}
-use Rattle.switch_core.specs.FrontEvents.{FrontEvent, front_of}
+use Rattle.port_model.specs.TokenConnector.{bridge_past}
+use Rattle.port_model.specs.FrontEvents.{FrontEvent, front_of}
 use Rattle.switch_core.specs.SlotStands.{views_of}
-use Rattle.switch_core.specs.Token.{moments_at, token_history, token_life, token_port}
+use Rattle.port_model.specs.Token.{moments_at, token_history, token_life, token_port}
 
 abbrev pub up_in_life : ℕ → Up → Up
 up_in_life life up = record { life = life; value = up.value; max0 = up.max0; ins = up.ins; outs = up.outs }

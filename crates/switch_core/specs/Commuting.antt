@@ -3,12 +3,13 @@
 use Rattle.std.specs.Prelude.{◌≡◌, ◌≢◌, ℕ, List, ◌∷◌, ◌++◌}
 use Rattle.psd_base.specs.declared.act.Act.{Act}
 use Rattle.psd_base.specs.declared.act.Side.{Side}
-use Rattle.psd_base.specs.Event.{PortActs, Seen}
+use Rattle.psd_base.specs.Event.{Seen}
 use Rattle.peripheral_filter.specs.declared.rule.RuleSet.{RuleSet}
 use Rattle.switch_core.specs.declared.switch.Switch.{Switch}
-use Rattle.switch_core.specs.FrontEvents.{front_of}
+use Rattle.port_model.specs.FrontEvents.{front_of}
+use Rattle.port_model.specs.Independence.{acts}
 use Rattle.switch_core.specs.StandsFor.{StandsFor}
-use Rattle.switch_core.specs.View.{view}
+use Rattle.port_model.specs.View.{view}
 
 -- Two schedules say the same to every part of the switch: the same happened at the front, and each port has the same view.
 pub record SameWords (rules : RuleSet) (past other : List Seen) : Type 0 where
@@ -19,10 +20,6 @@ pub record SameWords (rules : RuleSet) (past other : List Seen) : Type 0 where
 abbrev pub StandsForSame : Type 0
 StandsForSame = (rules : RuleSet) (switch : Switch) (past other : List Seen)
     → SameWords rules past other → StandsFor rules switch past → StandsFor rules switch other
-
--- the computer of a port acts
-abbrev pub acts : ℕ → ℕ → Side → Act → Seen
-acts tick port side act = record { tick = tick; happening = PortActs port side act }
 
 -- Two acts at different ports, next to each other in a schedule, may be exchanged, whatever their ticks and whatever came before
 -- and comes after them: the schedule says the same.

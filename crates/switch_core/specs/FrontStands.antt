@@ -7,12 +7,12 @@ use Rattle.auth_router.specs.Bridge.{BridgePast}
 use Rattle.auth_router.specs.BridgeStands.{jobs_of}
 use Rattle.token_plug.specs.TokenStands.{TokenStands}
 use Rattle.switch_core.specs.declared.front.Front.{Front}
-use Rattle.switch_core.specs.FrontEvents.{FrontEvent}
-use Rattle.switch_core.specs.FrontHealth.{health_at}
-use Rattle.switch_core.specs.Chosen.{moments_in}
-use Rattle.switch_core.specs.Peripherals.{plug_history}
+use Rattle.port_model.specs.FrontEvents.{FrontEvent}
+use Rattle.port_model.specs.FrontHealth.{health_at}
+use Rattle.port_model.specs.Chosen.{moments_in}
+use Rattle.port_model.specs.Peripherals.{plug_history}
 use Rattle.switch_core.specs.PeripheralsStand.{PeripheralsStand, HasLivesWithin}
-use Rattle.switch_core.specs.Token.{token_history}
+use Rattle.port_model.specs.Token.{token_history}
 use Rattle.psd_base.specs.declared.console.Plug.TheVariants.{Keyboard, Mouse}
 
 pub record FrontStands (rules : RuleSet) (front : Front) (past : List FrontEvent) (bridge : BridgePast) : Type 0 where

@@ -6,7 +6,7 @@ use Rattle.psd_base.specs.declared.line.Line.{Line}
 use Rattle.psd_base.specs.Event.{Seen}
 use Rattle.peripheral_filter.specs.declared.rule.RuleSet.{RuleSet}
 use Rattle.switch_core.specs.declared.turn.Turn.{Turn}
-use Rattle.switch_core.specs.Lines.{line_at, line_with}
+use Rattle.port_model.specs.Lines.{line_at, line_with}
 use Rattle.switch_core.specs.Notes.{notes_at}
 use Rattle.switch_core.specs.Orders.{orders_at}
 

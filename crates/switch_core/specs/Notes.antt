@@ -13,11 +13,11 @@ use Rattle.fail_secure.specs.declared.health_change.HealthChange.{HealthChange}
 use Rattle.fail_secure.specs.declared.health_change.HealthChange.TheVariants as change
 use Rattle.fail_secure.specs.HealthChange.{change_of}
 use Rattle.peripheral_filter.specs.declared.rule.RuleSet.{RuleSet}
-use Rattle.switch_core.specs.FrontEvents.{FrontEvent, front_event, front_of}
-use Rattle.switch_core.specs.FrontHealth.{health_at}
-use Rattle.switch_core.specs.Chosen.{selected_at}
-use Rattle.switch_core.specs.Peripherals.{peripheral_notes}
-use Rattle.switch_core.specs.Token.{early_token_notes, late_token_notes}
+use Rattle.port_model.specs.FrontEvents.{FrontEvent, front_event, front_of}
+use Rattle.port_model.specs.FrontHealth.{health_at}
+use Rattle.port_model.specs.Chosen.{selected_at}
+use Rattle.port_model.specs.Peripherals.{peripheral_notes}
+use Rattle.port_model.specs.Token.{early_token_notes, late_token_notes}
 
 -- why a move makes the switch dark: a check that failed, an opened case, or a button that was down when the last check passed
 abbrev pub reason_of : Panel → Reason

@@ -7,12 +7,12 @@ use Rattle.psd_base.specs.declared.console.Job.{Job}
 use Rattle.psd_base.specs.declared.console.Order.{Order}
 use Rattle.psd_base.specs.Event.{Happening, PortActs, AtFront, Seen}
 use Rattle.peripheral_filter.specs.declared.rule.RuleSet.{RuleSet}
-use Rattle.switch_core.specs.FrontEvents.{FrontEvent, front_event, front_of}
+use Rattle.port_model.specs.FrontEvents.{FrontEvent, front_event, front_of}
 use Rattle.token_plug.specs.Acts.{job_orders}
-use Rattle.km_port.specs.TokenConnector.{job_to}
-use Rattle.switch_core.specs.Peripherals.{peripheral_orders}
-use Rattle.switch_core.specs.Token.{token_life, token_orders}
-use Rattle.switch_core.specs.View.{view}
+use Rattle.port_model.specs.TokenConnector.{job_to}
+use Rattle.port_model.specs.Peripherals.{peripheral_orders}
+use Rattle.port_model.specs.Token.{token_life, token_orders}
+use Rattle.port_model.specs.View.{view}
 
 -- what is ordered at an event at the front: from the keyboard, the mouse and the token in this order
 abbrev pub front_orders : RuleSet → FrontEvent → List FrontEvent → List Order

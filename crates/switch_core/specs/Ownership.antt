@@ -9,14 +9,14 @@ use Rattle.fail_secure.specs.HealthChange.{is_alive}
 use Rattle.peripheral_filter.specs.declared.rule.RuleSet.{RuleSet}
 use Rattle.token_plug.specs.Moments.{Moment}
 use Rattle.token_plug.specs.Ownership.{PowerCycle}
-use Rattle.km_port.specs.Concerns.{Token, item}
-use Rattle.km_port.specs.Concerns as news
-use Rattle.switch_core.specs.Chosen.{selected_at, selections}
-use Rattle.switch_core.specs.FrontEvents.{FrontEvent, front_of}
-use Rattle.switch_core.specs.FrontHealth.{health_at}
+use Rattle.port_model.specs.Concerns.{Token, item}
+use Rattle.port_model.specs.Concerns as news
+use Rattle.port_model.specs.Chosen.{selected_at, selections}
+use Rattle.port_model.specs.FrontEvents.{FrontEvent, front_of}
+use Rattle.port_model.specs.FrontHealth.{health_at}
 use Rattle.switch_core.specs.Orders.{act_orders, orders_at}
-use Rattle.switch_core.specs.Token.{moments_at, token_history, token_life, token_port}
-use Rattle.switch_core.specs.View.{view}
+use Rattle.port_model.specs.Token.{moments_at, token_history, token_life, token_port}
+use Rattle.port_model.specs.View.{view}
 
 -- the token says that a job is done, with its life, its number, the status and the bytes
 abbrev pub job_done : ℕ → ℕ → ℕ → ℕ → List ℕ → Seen

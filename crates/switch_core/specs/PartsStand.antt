@@ -5,8 +5,8 @@ use Rattle.peripheral_filter.specs.declared.rule.RuleSet.{RuleSet}
 use Rattle.switch_core.specs.declared.front.Front.{Front}
 use Rattle.switch_core.specs.declared.ports.Ports.{Ports}
 use Rattle.switch_core.specs.Bridges.{bridge_after}
-use Rattle.switch_core.specs.Chosen.{selected_at, selections}
-use Rattle.switch_core.specs.FrontEvents.{front_of}
+use Rattle.port_model.specs.Chosen.{selected_at, selections}
+use Rattle.port_model.specs.FrontEvents.{front_of}
 use Rattle.switch_core.specs.FrontStands.{FrontStands}
 use Rattle.switch_core.specs.PanelsWithin.{PanelsWithin}
 use Rattle.switch_core.specs.SlotStands.{views_of}

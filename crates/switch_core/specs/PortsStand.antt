@@ -1,6 +1,6 @@
 -- What the ports of a switch stand for: each for its view, and the console for that of the selected one.
 use Rattle.std.specs.Prelude.{ℕ, List, Option, vec_len}
-use Rattle.km_port.specs.Concerns.{Item}
+use Rattle.port_model.specs.Concerns.{Item}
 use Rattle.switch_core.specs.declared.ports.Ports.{Ports}
 use Rattle.switch_core.specs.SeatStands.{SeatStands}
 use Rattle.switch_core.specs.SlotStands.{AllStand}

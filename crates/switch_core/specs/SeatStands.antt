@@ -1,6 +1,6 @@
 -- What the console of a switch stands for: the selected port, if one is, has it.
 use Rattle.std.specs.Prelude.{◌≡◌, ℕ, ◌≤◌, true, List, Option, Some, None}
-use Rattle.km_port.specs.Concerns.{Item, is_live}
+use Rattle.port_model.specs.Concerns.{Item, is_live}
 use Rattle.km_port.specs.ConsoleStands.{VacantStands, OwnedStands}
 use Rattle.km_port.specs.declared.console.Console.{Console}
 use Rattle.km_port.specs.declared.console.Owned.{Owned}

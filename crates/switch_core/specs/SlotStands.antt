@@ -2,11 +2,11 @@
 use Rattle.std.specs.Prelude.{◌≡◌, ℕ, ◌+◌, false, List, Some, slice_get}
 use Rattle.psd_base.specs.Event.{Seen}
 use Rattle.peripheral_filter.specs.declared.rule.RuleSet.{RuleSet}
-use Rattle.km_port.specs.Concerns.{Item, is_live}
+use Rattle.port_model.specs.Concerns.{Item, is_live}
 use Rattle.km_port.specs.PortStands.{LiveStands}
 use Rattle.switch_core.specs.declared.slot.Slot.{Slot}
 use Rattle.switch_core.specs.declared.slot.Slot.TheVariants as slot
-use Rattle.switch_core.specs.View.{view}
+use Rattle.port_model.specs.View.{view}
 
 -- a dark port answers nothing
 abbrev pub SlotStands : Slot → List Item → Type 0

@@ -9,8 +9,8 @@ use Rattle.psd_base.specs.declared.console.Plug.TheVariants.{Keyboard, Mouse, To
 use Rattle.psd_base.specs.Event.{Seen}
 use Rattle.peripheral_filter.specs.declared.rule.RuleSet.{RuleSet}
 use Rattle.auth_router.specs.declared.slot.TheConstants.{RESET}
-use Rattle.switch_core.specs.Chosen.{selections}
-use Rattle.switch_core.specs.FrontEvents.{front_of}
+use Rattle.port_model.specs.Chosen.{selections}
+use Rattle.port_model.specs.FrontEvents.{front_of}
 use Rattle.switch_core.specs.Orders.{orders_at}
 use Rattle.switch_core.specs.Ownership.{MakesJob}
 

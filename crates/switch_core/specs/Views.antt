@@ -2,9 +2,9 @@
 use Rattle.std.specs.Prelude.{ℕ, ◌==◌, List, ◌∷◌, Option}
 use Rattle.psd_base.specs.declared.act.Act.{Act}
 use Rattle.psd_base.specs.declared.act.Side.{Side}
-use Rattle.km_port.specs.Concerns.{Concern, Own, Selects, Leaves, TokenNews, Item, item}
-use Rattle.switch_core.specs.View.{stamped, heard, only_if, only_at, handed}
-use Rattle.switch_core.specs.Chosen.{is_at}
+use Rattle.port_model.specs.Concerns.{Concern, Own, Selects, Leaves, TokenNews, Item, item}
+use Rattle.port_model.specs.View.{stamped, heard, only_if, only_at, handed}
+use Rattle.port_model.specs.Chosen.{is_at}
 
 -- the computer of a port acts
 abbrev pub acted : ℕ → ℕ → Side → Act → (ℕ → List Item) → ℕ → List Item

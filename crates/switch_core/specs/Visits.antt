@@ -2,7 +2,7 @@
 use Rattle.std.specs.Prelude.{ℕ, ◌+◌, Some, if◌then◌else◌}
 use Rattle.psd_base.specs.Event.{Happening, PortActs, AtFront}
 use Rattle.switch_core.specs.declared.visits.Visits.{Visits}
-use Rattle.switch_core.specs.Chosen.{is_at}
+use Rattle.port_model.specs.Chosen.{is_at}
 
 -- the visits after an act at a port
 abbrev pub visited : ℕ → Visits → Visits

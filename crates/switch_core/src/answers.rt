@@ -1,9 +1,9 @@
 //! The act of a computer at its keyboard and mouse: it is answered by its port alone.
 ghost use Rattle.std.specs.Prelude.{◌≡◌, ℕ, ◌+◌, ◌-◌, ◌<◌, ◌≤◌, ◌==◌, List, ◌∷◌, length, Option};
 ghost use Rattle.psd_base.specs.declared.act.Side.TheVariants.{Km};
-ghost use Rattle.km_port.specs.Concerns.{Item, item, Own};
+ghost use Rattle.port_model.specs.Concerns.{Item, item, Own};
 ghost use Rattle.km_port.specs.ConsoleStands.{OwnedStands};
-ghost use Rattle.km_port.specs.OnePort.{answer_to};
+ghost use Rattle.port_model.specs.OnePort.{answer_to};
 ghost use Rattle.switch_core.specs.SeatStands.{SeatStands, give_count};
 ghost use Rattle.switch_core.specs.SlotStands.{AllStand, SlotStands};
 ghost use Rattle.switch_core.specs.Views.{acted};

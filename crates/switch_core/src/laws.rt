@@ -1,6 +1,6 @@
 //! What doesn't depend on what computers do, as laws: each function's contract is one, and its body is empty.
 ghost use Rattle.switch_core.specs.Commuting.{ActsCommute, StandsForSame};
-ghost use Rattle.switch_core.specs.Independence.{ConsoleIgnoresActs, SameViewSameLines, ViewIgnoresOthers};
+ghost use Rattle.switch_core.specs.Independence.{ConsoleIgnoresActs};
 ghost use Rattle.switch_core.specs.Ownership.{HeardByOwnerAlone, JobsAreTheOwners, LifeIsRoutedOnce, NoJobsUnselected};
 ghost use Rattle.switch_core.specs.Ownership.{JobsOfOneLife, JobsOfTwoLives, JobsOfTwoSelections};
 ghost use Rattle.switch_core.specs.Stamped.{LifeIsOnePorts, LivesAreApart};
@@ -9,18 +9,6 @@ ghost use Rattle.switch_core.specs.Stamped.{LifeIsOnePorts, LivesAreApart};
 /// without all their acts they are the same.
 pub fn console_ignores_acts()
     ensures { ConsoleIgnoresActs }
-{}
-
-/// A port's view has nothing of what other computers do: acts of theirs may be taken out, added or exchanged.
-#[tactic(auto, using(crate::proofs::Independence::view_ignores_others))]
-pub fn view_ignores_others()
-    ensures { ViewIgnoresOthers }
-{}
-
-/// A computer is answered the same in two runs in which the same concerns its port.
-#[tactic(auto, using(crate::proofs::Independence::same_view_same_lines))]
-pub fn same_view_same_lines()
-    ensures { SameViewSameLines }
 {}
 
 /// The switch knows its schedule only by what happened at the front and by the views of its ports: where it stands for one, it

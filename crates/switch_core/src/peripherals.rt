@@ -9,8 +9,9 @@ ghost use Rattle.console_plug.specs.Moments.{Moment, Attached, Detached, Replied
 ghost use Rattle.console_plug.specs.PlugGives.{notes_at, orders_at};
 ghost use Rattle.psd_base.specs.KeySet.{no_keys};
 ghost use Rattle.console_plug.specs.Given.{still};
-ghost use Rattle.switch_core.specs.Shown.{IsShown, shown_by, shown_concerns};
-ghost use Rattle.switch_core.specs.Peripherals.{change_moment, if_same_plug, plug_notes, plug_orders, shows_none, with_moment};
+ghost use Rattle.switch_core.specs.Shown.{IsShown, shown_concerns};
+ghost use Rattle.port_model.specs.Shown.{shown_by};
+ghost use Rattle.port_model.specs.Peripherals.{change_moment, if_same_plug, plug_notes, plug_orders, shows_none, with_moment};
 
 use crate::shown::Shown;
 use console_plug::{ConsolePlug, ShownButtons, ShownKeys};
@@ -48,7 +49,7 @@ impl Peripherals {
     }
 
     /// Whether no key and no button is down.
-    #[tactic(auto, unfolding(crate::specs::Peripherals::shows_none))]
+    #[tactic(auto, unfolding(port_model::specs::Peripherals::shows_none))]
     pub fn shows_nothing(&self) -> bool
         ensures { (rules : RuleSet) (keyboard mouse : List Moment) → PeripheralsStand rules self.now keyboard mouse
             → result ≡ shows_none rules keyboard mouse }

@@ -1,14 +1,14 @@
 //! The ports of a switch and their console: each port lies in the place of its number, and is told what concerns it alone.
 ghost use Rattle.std.specs.Prelude.{◌≡◌, ◌≢◌, ℕ, ◌+◌, ◌-◌, ◌<◌, ◌≤◌, List, ◌∷◌, length, true, false, IsTrue, None, Some, Option};
 ghost use Rattle.psd_base.specs.declared.act.Side.TheVariants.{Km};
-ghost use Rattle.km_port.specs.Concerns.{Item, item, is_live, Own, Wakes, Darkens, Selects};
+ghost use Rattle.port_model.specs.Concerns.{Item, item, is_live, Own, Wakes, Darkens, Selects};
 ghost use Rattle.km_port.specs.ConsoleStands.{OwnedStands, VacantStands};
-ghost use Rattle.km_port.specs.OnePort.{answer_to};
-ghost use Rattle.switch_core.specs.Chosen.{given_after};
+ghost use Rattle.port_model.specs.OnePort.{answer_to};
+ghost use Rattle.port_model.specs.Chosen.{given_after};
 ghost use Rattle.switch_core.specs.SeatStands.{CanHave, SeatStands, give_count};
 ghost use Rattle.switch_core.specs.Shown.{IsShown, shown_concerns};
 ghost use Rattle.switch_core.specs.SlotStands.{AllStand, SlotStands};
-ghost use Rattle.switch_core.specs.View.{stamped};
+ghost use Rattle.port_model.specs.View.{stamped};
 ghost use Rattle.switch_core.specs.Views.{acted, given_to, left_by, selected_to, shown_to, to_all};
 ghost use Rattle.switch_core.specs.Wired.{AreWired, is_seated, IsSlot, IsWired, is_owner};
 

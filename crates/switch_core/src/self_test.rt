@@ -1,7 +1,7 @@
 //! What a move at the panel means for the self-test.
 ghost use Rattle.std.specs.Prelude.{◌≡◌, List};
 ghost use Rattle.fail_secure.specs.Health.{IsUnfinished, Report, health_after};
-ghost use Rattle.switch_core.specs.FrontHealth.{IsKnownCheck, with_report};
+ghost use Rattle.port_model.specs.FrontHealth.{IsKnownCheck, with_report};
 ghost use Rattle.switch_core.specs.Notes.{reason_of};
 
 use fail_secure::Health;

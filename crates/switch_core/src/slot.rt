@@ -1,9 +1,9 @@
 //! A port in one of its states.
 ghost use Rattle.std.specs.Prelude.{◌≡◌, ℕ, Bool, true, false, List, ◌∷◌};
 ghost use Rattle.psd_base.specs.declared.act.Side.TheVariants.{Km, Ua};
-ghost use Rattle.km_port.specs.Concerns.{Item, item, is_live, Own, Wakes, Darkens, Leaves};
+ghost use Rattle.port_model.specs.Concerns.{Item, item, is_live, Own, Wakes, Darkens, Leaves};
 ghost use Rattle.km_port.specs.ConsoleStands.{OwnedStands};
-ghost use Rattle.km_port.specs.OnePort.{answer_to};
+ghost use Rattle.port_model.specs.OnePort.{answer_to};
 
 use km_port::{Console, Dark, Farewell, Live, Owned, Port};
 use psd_base::act::{Act, Answer};

@@ -10,7 +10,7 @@ ghost use Rattle.token_plug.specs.Moments.{Moment, Attached, Detached, Replied};
 ghost use Rattle.token_plug.specs.TokenGives.{notes_at, orders_at};
 ghost use Rattle.token_plug.specs.TokenStands.{TokenStands};
 ghost use Rattle.switch_core.specs.Bridges.{bridge_over};
-ghost use Rattle.switch_core.specs.Token.{change_moments, given_over, if_token, move_moments};
+ghost use Rattle.port_model.specs.Token.{change_moments, given_over, if_token, move_moments};
 
 use fail_secure::HealthChange;
 use peripheral_filter::RuleSet;

@@ -5,10 +5,11 @@ use Rattle.emulated_keyboard.specs.Delivery as typed
 use Rattle.emulated_keyboard.specs.KeyboardStands.{KeyboardStands}
 use Rattle.emulated_mouse.specs.Delivery as moved
 use Rattle.emulated_mouse.specs.MouseStands.{MouseStands}
-use Rattle.km_port.specs.Asked.{keys_asked, pointer_asked}
-use Rattle.km_port.specs.Descriptors.{km_descriptor}
-use Rattle.km_port.specs.KmFunction.{class_answer, class_answer_after, takes_class_request, keyboard_with_completed, mouse_with_completed}
-use Rattle.km_port.specs.OnePort.{km_act}
+use Rattle.port_model.specs.Asked.{keys_asked, pointer_asked}
+use Rattle.port_model.specs.Descriptors.{km_descriptor}
+use Rattle.km_port.specs.KmFunction.{class_answer, keyboard_with_completed, mouse_with_completed}
+use Rattle.port_model.specs.ClassRequests.{class_answer_after, takes_class_request}
+use Rattle.port_model.specs.OnePort.{km_act}
 use Rattle.km_port.specs.declared.km_function.KmFunction.{KmFunction}
 use Rattle.km_port.proofs.KmFunctionLaws.{class_answer-is, keyboard_entered-kept, mouse_entered-kept, keyboard_after_act, mouse_after_act}
 use Rattle.km_port.proofs.Sides.{keyboard-effect, mouse-effect, keys_asked-keyboard, pointer_asked-mouse, moment_of-same}

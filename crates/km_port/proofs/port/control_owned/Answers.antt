@@ -3,8 +3,8 @@ use Rattle.std.proofs.Common.{◌∙◌, true, sym}
 use Rattle.control_pipe.specs.Control.{control_effect, transfer_completed}
 use Rattle.emulated_keyboard.specs.Delivery as typed
 use Rattle.emulated_mouse.specs.Delivery as moved
-use Rattle.km_port.specs.Asked.{keys_asked, pointer_asked}
-use Rattle.km_port.specs.OnePort.{km_act}
+use Rattle.port_model.specs.Asked.{keys_asked, pointer_asked}
+use Rattle.port_model.specs.OnePort.{km_act}
 use Rattle.km_port.proofs.Sides.{keys-effect, pointer-effect, keys_asked-latch, pointer_asked-latch, keys_asked-entered, pointer_asked-entered}
 use Rattle.km_port.proofs.port.control_owned.Goals as goal
 

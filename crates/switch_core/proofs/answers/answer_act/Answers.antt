@@ -1,7 +1,7 @@
 -- The port that acts goes on with its view, and the others stay.
 use Rattle.std.proofs.Common.{◌≡◌, ◌+◌, ◌-◌, ◌<◌, List, length, length-set, sym, subst, arith}
 use Rattle.psd_base.specs.declared.act.Side.TheVariants.{Km}
-use Rattle.km_port.specs.Concerns.{Item}
+use Rattle.port_model.specs.Concerns.{Item}
 use Rattle.switch_core.specs.SlotStands.{SlotStands}
 use Rattle.switch_core.specs.Wired.{is_owner}
 use Rattle.switch_core.proofs.Handing.{acted-other, acted-own}

@@ -1,6 +1,6 @@
 -- One more port goes dark.
 use Rattle.std.proofs.Common.{◌+◌, ◌<◌, ◌∷◌, ℕ, false, inl, inr, length, refl, subst, arith}
-use Rattle.km_port.specs.Concerns.{Darkens, item}
+use Rattle.port_model.specs.Concerns.{Darkens, item}
 use Rattle.switch_core.specs.declared.slot.Slot.{Slot}
 use Rattle.switch_core.specs.SlotStands.{SlotStands}
 use Rattle.switch_core.proofs.PortLists.{slice_get-set, slice_get-within, AreWired-at, AreWired-set}

@@ -1,6 +1,6 @@
 -- The console that is given stands for the view of its port.
 use Rattle.std.proofs.Common.{Some, ap, List, ℕ, subst, sym}
-use Rattle.km_port.specs.Concerns.{Item}
+use Rattle.port_model.specs.Concerns.{Item}
 use Rattle.km_port.specs.ConsoleStands.{OwnedStands}
 use Rattle.switch_core.specs.Views.{given_to}
 use Rattle.switch_core.proofs.Handing.{given_to-own}

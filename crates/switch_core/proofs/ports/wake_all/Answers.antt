@@ -1,7 +1,7 @@
 -- One more port wakes.
 use Rattle.std.proofs.Common.{◌+◌, ◌<◌, ◌∷◌, ℕ, false, inl, inr, length, refl, subst, arith}
 use Rattle.std.proofs.lemmas.Option.{slice_get-get_or}
-use Rattle.km_port.specs.Concerns.{Wakes, item}
+use Rattle.port_model.specs.Concerns.{Wakes, item}
 use Rattle.switch_core.specs.declared.slot.Slot.{Slot}
 use Rattle.switch_core.specs.SlotStands.{SlotStands}
 use Rattle.switch_core.proofs.PortLists.{slice_get-set, slice_get-within, AreWired-at, AreWired-set}

@@ -1,6 +1,6 @@
 -- The ports before this one are awake, and the others are as they were. Each keeps its number.
 use Rattle.std.proofs.Common.{◌≡◌, ◌+◌, ◌<◌, ◌≤◌, ◌∷◌, false, ℕ, List, Some, slice_get}
-use Rattle.km_port.specs.Concerns.{Item, Wakes, is_live, item}
+use Rattle.port_model.specs.Concerns.{Item, Wakes, is_live, item}
 use Rattle.switch_core.specs.declared.slot.Slot.{Slot}
 use Rattle.switch_core.specs.SlotStands.{SlotStands, AllStand}
 use Rattle.switch_core.specs.Wired.{AreWired}

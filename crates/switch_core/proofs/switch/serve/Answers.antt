@@ -6,14 +6,14 @@ use Rattle.psd_base.specs.declared.line.Line.{Line}
 use Rattle.psd_base.specs.Event.{AtFront, TimePasses, PanelMoves, Attaches, Detaches, Replies, Reports, Finishes}
 use Rattle.auth_router.specs.Bridge.{BridgePast}
 use Rattle.switch_core.specs.Bridges.{bridge_after, bridges_of}
-use Rattle.switch_core.specs.Chosen.{given_after, selected_at}
-use Rattle.switch_core.specs.FrontEvents.{front_event, front_of}
+use Rattle.port_model.specs.Chosen.{given_after, selected_at}
+use Rattle.port_model.specs.FrontEvents.{front_event, front_of}
 use Rattle.switch_core.specs.FrontStands.{FrontStands}
 use Rattle.switch_core.specs.PortsStand.{PortsStand, port_count}
 use Rattle.switch_core.specs.SeatStands.{CanHave, give_count}
 use Rattle.switch_core.specs.SlotStands.{views_of}
-use Rattle.switch_core.specs.Token.{token_life, token_port}
-use Rattle.switch_core.specs.View.{news_at}
+use Rattle.port_model.specs.Token.{token_life, token_port}
+use Rattle.port_model.specs.View.{news_at}
 use Rattle.switch_core.specs.Views.{selected_to}
 use Rattle.switch_core.proofs.Bridging.{answer-acted, jobs-acted}
 use Rattle.switch_core.proofs.Handing.{PortsStand-token}

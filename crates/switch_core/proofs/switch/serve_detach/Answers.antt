@@ -1,13 +1,13 @@
 -- What the console shows then reaches the selected port.
 use Rattle.std.proofs.Common.{List, subst}
 use Rattle.psd_base.specs.Event.{AtFront, Detaches}
-use Rattle.km_port.specs.Concerns.{Concern}
+use Rattle.port_model.specs.Concerns.{Concern}
 use Rattle.switch_core.specs.Bridges.{bridge_after}
-use Rattle.switch_core.specs.Chosen.{selected_at}
-use Rattle.switch_core.specs.FrontEvents.{front_of}
+use Rattle.port_model.specs.Chosen.{selected_at}
+use Rattle.port_model.specs.FrontEvents.{front_of}
 use Rattle.switch_core.specs.PortsStand.{PortsStand}
 use Rattle.switch_core.specs.SlotStands.{views_of}
-use Rattle.switch_core.specs.View.{news_at}
+use Rattle.port_model.specs.View.{news_at}
 use Rattle.switch_core.specs.Views.{shown_to}
 use Rattle.switch_core.proofs.Hearing.{PortsStand-heard}
 use Rattle.switch_core.proofs.switch.serve_detach.Goals as goal

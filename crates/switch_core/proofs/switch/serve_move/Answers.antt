@@ -2,12 +2,12 @@
 use Rattle.std.proofs.Common.{◌≡◌, ◌∷◌, ℕ, Option, false, ◌∙◌, subst, sym}
 use Rattle.psd_base.specs.Event.{AtFront, PanelMoves}
 use Rattle.fail_secure.specs.declared.health_change.HealthChange.{HealthChange}
-use Rattle.km_port.specs.Concerns.{Darkens, Wakes, is_live}
+use Rattle.port_model.specs.Concerns.{Darkens, Wakes, is_live}
 use Rattle.switch_core.specs.Bridges.{bridge_after}
-use Rattle.switch_core.specs.Chosen.{selected_at}
-use Rattle.switch_core.specs.FrontEvents.{front_event, front_of}
+use Rattle.port_model.specs.Chosen.{selected_at}
+use Rattle.port_model.specs.FrontEvents.{front_event, front_of}
 use Rattle.switch_core.specs.PortsStand.{PortsStand}
-use Rattle.switch_core.specs.View.{view, news_at, stamped, change_concerns}
+use Rattle.port_model.specs.View.{view, news_at, stamped, change_concerns}
 use Rattle.switch_core.specs.Views.{to_all}
 use Rattle.switch_core.specs.SlotStands.{views_of}
 use Rattle.switch_core.proofs.Hearing.{PortsStand-heard}

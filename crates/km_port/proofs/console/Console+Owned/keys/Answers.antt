@@ -1,7 +1,7 @@
 -- What the keyboard shows is offered to the key latch.
 use Rattle.std.proofs.Common.{true}
 use Rattle.emulated_keyboard.specs.Delivery as typed
-use Rattle.km_port.specs.OnePort.{parts_of}
+use Rattle.port_model.specs.OnePort.{parts_of}
 use Rattle.km_port.proofs.Showing.{typed-at}
 use Rattle.km_port.proofs.console.Console+Owned.keys.Goals as goal
 

@@ -1,7 +1,7 @@
 -- What the mouse says is offered to the pointer latch.
 use Rattle.std.proofs.Common.{true}
 use Rattle.emulated_mouse.specs.Delivery as moved
-use Rattle.km_port.specs.OnePort.{parts_of}
+use Rattle.port_model.specs.OnePort.{parts_of}
 use Rattle.km_port.proofs.Showing.{moved-at}
 use Rattle.km_port.proofs.console.Console+Owned.pointer.Goals as goal
 

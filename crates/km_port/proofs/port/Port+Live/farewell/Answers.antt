@@ -2,7 +2,7 @@
 use Rattle.std.proofs.Common.{◌∙◌, true, sym}
 use Rattle.emulated_keyboard.specs.Delivery as typed
 use Rattle.emulated_mouse.specs.Delivery as moved
-use Rattle.km_port.specs.OnePort.{parts_of}
+use Rattle.port_model.specs.OnePort.{parts_of}
 use Rattle.km_port.proofs.Showing.{typed-at, moved-at}
 use Rattle.km_port.proofs.port.Port+Live.farewell.Goals as goal
 

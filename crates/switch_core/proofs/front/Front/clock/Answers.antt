@@ -11,7 +11,7 @@ use Rattle.token_plug.specs.TokenGives as gives
 use Rattle.token_plug.specs.TokenStands.{TokenStands}
 use Rattle.token_plug.specs.declared.plug.TokenPlug.{TokenPlug}
 use Rattle.switch_core.specs.Bridges.{bridge_front, bridge_over}
-use Rattle.switch_core.specs.Token.{early_token_notes, given_over, late_at, late_token_notes, move_moments, token_history, token_orders}
+use Rattle.port_model.specs.Token.{early_token_notes, given_over, late_at, late_token_notes, move_moments, token_history, token_orders}
 use Rattle.psd_base.specs.declared.console.Plug.TheVariants.{Keyboard, Mouse}
 use Rattle.fail_secure.specs.declared.health.Health.{Health}
 use Rattle.fail_secure.specs.HealthChange.{is_alive}
@@ -23,11 +23,11 @@ use Rattle.selector.specs.SelectorStands.{SelectorStands}
 use Rattle.console_plug.specs.Moments as at_plug
 use Rattle.console_plug.specs.PlugGives as plug
 use Rattle.peripheral_filter.specs.declared.rule.RuleSet.{RuleSet}
-use Rattle.switch_core.specs.Chosen.{moments_in, move_at}
-use Rattle.switch_core.specs.FrontEvents.{FrontEvent, front_event}
+use Rattle.port_model.specs.Chosen.{moments_in, move_at}
+use Rattle.port_model.specs.FrontEvents.{FrontEvent, front_event}
 use Rattle.switch_core.specs.FrontStands.{FrontStands}
 use Rattle.switch_core.specs.Notes.{move_notes, selector_notes}
-use Rattle.switch_core.specs.Peripherals.{peripheral_notes, peripheral_orders, plug_history, shows_nothing}
+use Rattle.port_model.specs.Peripherals.{peripheral_notes, peripheral_orders, plug_history, shows_nothing}
 use Rattle.switch_core.specs.PeripheralsStand.{PeripheralsStand}
 use Rattle.switch_core.specs.declared.peripherals.Peripherals.{Peripherals}
 use Rattle.switch_core.proofs.Bridging.{bridge_over-behind, given_over-behind}

@@ -4,10 +4,10 @@ use Rattle.psd_base.specs.declared.console.Order.{Order}
 use Rattle.psd_base.specs.declared.console.Plug.TheVariants.{Keyboard, Mouse}
 use Rattle.token_plug.specs.TokenStands.{TokenStands}
 use Rattle.token_plug.specs.declared.plug.TokenPlug.{TokenPlug}
-use Rattle.switch_core.specs.FrontEvents.{front_event}
-use Rattle.switch_core.specs.Peripherals.{peripheral_orders, plug_history}
+use Rattle.port_model.specs.FrontEvents.{front_event}
+use Rattle.port_model.specs.Peripherals.{peripheral_orders, plug_history}
 use Rattle.switch_core.specs.PeripheralsStand.{PeripheralsStand}
-use Rattle.switch_core.specs.Token.{token_history, token_orders}
+use Rattle.port_model.specs.Token.{token_history, token_orders}
 use Rattle.switch_core.specs.declared.peripherals.Peripherals.{Peripherals}
 use Rattle.psd_base.specs.Event.{Detaches}
 use Rattle.switch_core.proofs.front.Front.detach.Goals as goal

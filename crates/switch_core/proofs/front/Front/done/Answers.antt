@@ -2,7 +2,7 @@
 use Rattle.std.proofs.Common.{sym, subst}
 use Rattle.token_plug.specs.TokenStands.{TokenStands}
 use Rattle.token_plug.specs.declared.plug.TokenPlug.{TokenPlug}
-use Rattle.switch_core.specs.Token.{token_history}
+use Rattle.port_model.specs.Token.{token_history}
 use Rattle.switch_core.proofs.front.Front.done.Goals as goal
 
 pub returns-clause-stands : goal.returns-clause-stands

@@ -8,19 +8,19 @@ use Rattle.token_plug.specs.TokenGives as gives
 use Rattle.token_plug.specs.TokenStands.{TokenStands}
 use Rattle.token_plug.specs.declared.plug.TokenPlug.{TokenPlug}
 use Rattle.switch_core.specs.Bridges.{bridge_over}
-use Rattle.switch_core.specs.FrontEvents.{FrontEvent}
+use Rattle.port_model.specs.FrontEvents.{FrontEvent}
 use Rattle.switch_core.specs.FrontStands.{FrontStands}
-use Rattle.switch_core.specs.Token.{change_moments, early_token_notes, given_over, late_token_notes, token_history, token_orders}
+use Rattle.port_model.specs.Token.{change_moments, early_token_notes, given_over, late_token_notes, token_history, token_orders}
 use Rattle.fail_secure.specs.declared.health.Health.{Health}
 use Rattle.fail_secure.specs.Health.{health_after}
 use Rattle.fail_secure.specs.HealthChange.{change_of}
-use Rattle.switch_core.specs.FrontHealth.{reports_in, with_report}
-use Rattle.switch_core.specs.Chosen.{moments_in}
+use Rattle.port_model.specs.FrontHealth.{reports_in, with_report}
+use Rattle.port_model.specs.Chosen.{moments_in}
 use Rattle.switch_core.proofs.Fronts.{are_buttons_up-moves}
 use Rattle.psd_base.specs.declared.console.Plug.TheVariants.{Keyboard, Mouse}
 use Rattle.fail_secure.specs.declared.health_change.HealthChange.{HealthChange}
 use Rattle.switch_core.specs.Notes.{change_notes}
-use Rattle.switch_core.specs.Peripherals.{change_moment, peripheral_notes, peripheral_orders, plug_history, plug_orders, with_moment}
+use Rattle.port_model.specs.Peripherals.{change_moment, peripheral_notes, peripheral_orders, plug_history, plug_orders, with_moment}
 use Rattle.switch_core.specs.PeripheralsStand.{PeripheralsStand}
 use Rattle.switch_core.specs.declared.peripherals.Peripherals.{Peripherals}
 use Rattle.switch_core.proofs.Plugs.{change_notes-none, token_change_notes-none}

@@ -12,8 +12,8 @@ use Rattle.token_plug.specs.TokenGives as gives
 use Rattle.token_plug.specs.TokenStands.{TokenStands}
 use Rattle.token_plug.specs.declared.plug.TokenPlug.{TokenPlug}
 use Rattle.switch_core.specs.Bridges.{bridge_over}
-use Rattle.switch_core.specs.Token.{early_token_notes, given_over, if_token, late_token_notes, token_history, token_orders}
-use Rattle.switch_core.specs.Peripherals.{if_same_plug, peripheral_notes, peripheral_orders, plug_history, plug_notes, plug_orders, with_moment}
+use Rattle.port_model.specs.Token.{early_token_notes, given_over, if_token, late_token_notes, token_history, token_orders}
+use Rattle.port_model.specs.Peripherals.{if_same_plug, peripheral_notes, peripheral_orders, plug_history, plug_notes, plug_orders, with_moment}
 use Rattle.switch_core.specs.PeripheralsStand.{PeripheralsStand}
 use Rattle.switch_core.specs.declared.peripherals.Peripherals.{Peripherals}
 use Rattle.switch_core.proofs.front.Front.reply.Goals as goal

@@ -1,7 +1,7 @@
 -- A report changes nothing but what is shown.
 use Rattle.std.proofs.Common.{sym, subst}
 use Rattle.psd_base.specs.declared.console.Plug.TheVariants.{Keyboard, Mouse}
-use Rattle.switch_core.specs.Peripherals.{plug_history}
+use Rattle.port_model.specs.Peripherals.{plug_history}
 use Rattle.switch_core.specs.PeripheralsStand.{PeripheralsStand}
 use Rattle.switch_core.specs.declared.peripherals.Peripherals.{Peripherals}
 use Rattle.switch_core.proofs.front.Front.report.Goals as goal

@@ -8,9 +8,9 @@ use Rattle.selector.specs.declared.selector.Move.{Move}
 use Rattle.selector.specs.declared.selector.Move.TheVariants as move
 use Rattle.selector.specs.Moments.{Moment, Moved, Ticked}
 use Rattle.selector.specs.Choice.{choice_after, selected_in, move_of}
-use Rattle.switch_core.specs.FrontEvents.{FrontEvent, front_event}
-use Rattle.switch_core.specs.FrontHealth.{health_at}
-use Rattle.switch_core.specs.Peripherals.{shows_nothing}
+use Rattle.port_model.specs.FrontEvents.{FrontEvent, front_event}
+use Rattle.port_model.specs.FrontHealth.{health_at}
+use Rattle.port_model.specs.Peripherals.{shows_nothing}
 
 -- what the selection is found from: the moves at the panel, and while the switch is alive the clock events, with what the
 -- console shows

@@ -6,7 +6,7 @@ use Rattle.psd_base.specs.declared.setup.Setup.{Setup}
 use Rattle.control_pipe.specs.declared.codes.TheConstants.{FROM_DEVICE, GET_DESCRIPTOR, DEVICE_DESCRIPTOR, CONFIGURATION_DESCRIPTOR}
 use Rattle.emulated_keyboard.specs.Descriptors.{keyboard_descriptor, keyboard_descriptor-short}
 use Rattle.emulated_mouse.specs.Descriptors.{mouse_descriptor, mouse_descriptor-short}
-use Rattle.km_port.specs.declared.descriptors.TheConstants.{DEVICE, CONFIGURATION}
+use Rattle.port_model.specs.declared.descriptors.TheConstants.{DEVICE, CONFIGURATION}
 
 abbrev pub is_asked_for : Setup → ℕ → Bool
 is_asked_for setup value =

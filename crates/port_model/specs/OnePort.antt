@@ -13,14 +13,14 @@ use Rattle.control_pipe.specs.declared.reaction.Effect.TheVariants as effect
 use Rattle.auth_router.specs.Bridge.{bridge_answer}
 use Rattle.emulated_keyboard.specs.Delivery as typed
 use Rattle.emulated_mouse.specs.Delivery as moved
-use Rattle.km_port.specs.Asked.{keys_asked, pointer_asked}
-use Rattle.km_port.specs.Concerns.{Concern, Own, Wakes, Darkens, Selects, Leaves, Keys, Pointer, Token, Item, item, is_live}
-use Rattle.km_port.specs.Descriptors.{km_descriptor}
-use Rattle.km_port.specs.KmFunction.{class_answer_after, takes_class_request}
-use Rattle.km_port.specs.Polled.{polled_by, key_answer, pointer_answer}
-use Rattle.km_port.specs.TokenConnector.{bridge_past}
-use Rattle.km_port.specs.declared.polled.Polled.{Polled}
-use Rattle.km_port.specs.declared.polled.Polled.TheVariants.{Nothing, Halted, Keyboard, Mouse}
+use Rattle.port_model.specs.Asked.{keys_asked, pointer_asked}
+use Rattle.port_model.specs.Concerns.{Concern, Own, Wakes, Darkens, Selects, Leaves, Keys, Pointer, Token, Item, item, is_live}
+use Rattle.port_model.specs.Descriptors.{km_descriptor}
+use Rattle.port_model.specs.ClassRequests.{class_answer_after, takes_class_request}
+use Rattle.port_model.specs.Polled.{polled_by, key_answer, pointer_answer}
+use Rattle.port_model.specs.TokenConnector.{bridge_past}
+use Rattle.port_model.specs.declared.polled.Polled.{Polled}
+use Rattle.port_model.specs.declared.polled.Polled.TheVariants.{Nothing, Halted, Keyboard, Mouse}
 
 -- What each part of a port was told since the port woke, newest first: the acts at the control endpoint of the keyboard and
 -- mouse, and what happened at the keyboard and at the mouse.

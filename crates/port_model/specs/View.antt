@@ -5,12 +5,12 @@ use Rattle.fail_secure.specs.declared.health_change.HealthChange.{HealthChange}
 use Rattle.fail_secure.specs.declared.health_change.HealthChange.TheVariants as change
 use Rattle.fail_secure.specs.HealthChange.{change_of}
 use Rattle.peripheral_filter.specs.declared.rule.RuleSet.{RuleSet}
-use Rattle.km_port.specs.Concerns.{Concern, Own, Wakes, Darkens, Selects, Leaves, Token, TokenNews, Item, item}
-use Rattle.switch_core.specs.FrontEvents.{FrontEvent, front_event, front_of}
-use Rattle.switch_core.specs.FrontHealth.{health_at}
-use Rattle.switch_core.specs.Chosen.{selected_at, is_at}
-use Rattle.switch_core.specs.Shown.{shown_at}
-use Rattle.switch_core.specs.Token.{token_news}
+use Rattle.port_model.specs.Concerns.{Concern, Own, Wakes, Darkens, Selects, Leaves, Token, TokenNews, Item, item}
+use Rattle.port_model.specs.FrontEvents.{FrontEvent, front_event, front_of}
+use Rattle.port_model.specs.FrontHealth.{health_at}
+use Rattle.port_model.specs.Chosen.{selected_at, is_at}
+use Rattle.port_model.specs.Shown.{shown_at}
+use Rattle.port_model.specs.Token.{token_news}
 
 -- the concerns of one event, in their order, each with the event's tick
 abbrev pub stamped : ℕ → List Concern → List Item → List Item

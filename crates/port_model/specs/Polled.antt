@@ -10,8 +10,8 @@ use Rattle.emulated_keyboard.specs.KeyboardHistory as keyboard
 use Rattle.emulated_keyboard.specs.Delivery as typed
 use Rattle.emulated_mouse.specs.MouseHistory as mouse
 use Rattle.emulated_mouse.specs.Delivery as moved
-use Rattle.km_port.specs.declared.polled.Polled.{Polled}
-use Rattle.km_port.specs.declared.polled.Polled.TheVariants.{Nothing, Halted, Keyboard, Mouse}
+use Rattle.port_model.specs.declared.polled.Polled.{Polled}
+use Rattle.port_model.specs.declared.polled.Polled.TheVariants.{Nothing, Halted, Keyboard, Mouse}
 
 -- the keyboard has endpoint 1 and the mouse endpoint 2
 abbrev pub polled_at : ℕ → Bool → List ControlAct → Polled

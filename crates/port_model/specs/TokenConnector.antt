@@ -6,7 +6,7 @@ use Rattle.psd_base.specs.declared.console.Job.{Job}
 use Rattle.auth_router.specs.declared.up.Up.{Up}
 use Rattle.auth_router.specs.Entries.{Done}
 use Rattle.auth_router.specs.Bridge.{BridgePast, IsDown, IsUp, bridge_made, after_act}
-use Rattle.km_port.specs.Concerns.{TokenShape, TokenNews, Comes, Goes, Finishes, Concern, Own, Token, Item}
+use Rattle.port_model.specs.Concerns.{TokenShape, TokenNews, Comes, Goes, Finishes, Concern, Own, Token, Item}
 
 -- what a bridge is told of a token, in a life of this number
 abbrev pub up_of : ℕ → TokenShape → Up

@@ -8,7 +8,7 @@ use Rattle.fail_secure.specs.declared.health.Health.TheVariants.{Testing, Alive,
 use Rattle.fail_secure.specs.Health.{Report, Checked, Tampered, health_after}
 use Rattle.selector.specs.Moments.{Moment, Moved}
 use Rattle.selector.specs.Panel.{are_buttons_up}
-use Rattle.switch_core.specs.FrontEvents.{FrontEvent}
+use Rattle.port_model.specs.FrontEvents.{FrontEvent}
 
 -- a check is reported with whether no button is down
 abbrev pub with_report : Panel → Bool → List Report → List Report

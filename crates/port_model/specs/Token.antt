@@ -19,11 +19,11 @@ use Rattle.token_plug.specs.Moments.{Moment, Attached, Detached, Replied, Ticked
 use Rattle.token_plug.specs.Lives.{slot_calls, life_at}
 use Rattle.token_plug.specs.Routing.{routed_at}
 use Rattle.token_plug.specs.TokenGives as token
-use Rattle.km_port.specs.Concerns.{TokenShape, TokenNews, Comes, Goes}
-use Rattle.km_port.specs.Concerns as news
-use Rattle.switch_core.specs.Chosen.{selected_at, is_at}
-use Rattle.switch_core.specs.FrontEvents.{FrontEvent}
-use Rattle.switch_core.specs.FrontHealth.{health_at}
+use Rattle.port_model.specs.Concerns.{TokenShape, TokenNews, Comes, Goes}
+use Rattle.port_model.specs.Concerns as news
+use Rattle.port_model.specs.Chosen.{selected_at, is_at}
+use Rattle.port_model.specs.FrontEvents.{FrontEvent}
+use Rattle.port_model.specs.FrontHealth.{health_at}
 
 abbrev pub if_token : Plug → Moment → List Moment
 if_token Token moment = moment ∷ []

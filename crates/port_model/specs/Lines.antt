@@ -4,8 +4,8 @@ use Rattle.psd_base.specs.Event.{Happening, PortActs, AtFront, Seen}
 use Rattle.psd_base.specs.declared.act.Answer.{Answer}
 use Rattle.psd_base.specs.declared.line.Line.{Line}
 use Rattle.peripheral_filter.specs.declared.rule.RuleSet.{RuleSet}
-use Rattle.switch_core.specs.View.{view}
-use Rattle.km_port.specs.OnePort.{line_of}
+use Rattle.port_model.specs.View.{view}
+use Rattle.port_model.specs.OnePort.{line_of}
 
 -- the line that an event gives after a history, with its port: that of an act, the last of its port's transcript
 abbrev pub line_at : RuleSet → Seen → List Seen → Option (ℕ × Line)

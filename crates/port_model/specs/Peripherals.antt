@@ -14,8 +14,8 @@ use Rattle.console_host.specs.Replies.{reply_of}
 use Rattle.console_plug.specs.Moments.{Moment, Attached, Detached, Replied, Reported, Ticked, Woke, Darkened}
 use Rattle.console_plug.specs.PlugGives as plug
 use Rattle.console_plug.specs.Shown.{shown_keys, shown_buttons}
-use Rattle.switch_core.specs.FrontEvents.{FrontEvent}
-use Rattle.switch_core.specs.FrontHealth.{health_at}
+use Rattle.port_model.specs.FrontEvents.{FrontEvent}
+use Rattle.port_model.specs.FrontHealth.{health_at}
 
 abbrev pub is_same_plug : Plug → Plug → Bool
 is_same_plug Keyboard Keyboard = true

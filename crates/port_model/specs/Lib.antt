@@ -1,0 +1,16 @@
+pub mod Asked
+pub mod Chosen
+pub mod ClassRequests
+pub mod Concerns
+pub mod Descriptors
+pub mod FrontEvents
+pub mod FrontHealth
+pub mod Independence
+pub mod Lines
+pub mod OnePort
+pub mod Peripherals
+pub mod Polled
+pub mod Shown
+pub mod Token
+pub mod TokenConnector
+pub mod View
