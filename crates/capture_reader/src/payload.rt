@@ -33,7 +33,7 @@ pub fn read_record(
         (λ event. moves_panel event.happening ≡ false)) }
 {
     match form {
-        Form::Clock => into.kept = Some(Kept::Clock),
+        Form::Clock => keep_clock(&mut into.kept),
         Form::Act(port, side, kind) => read_act(port, side, kind, payload, into)?,
         Form::Plug(plug, kind) => read_doing(plug, kind, payload, into)?,
         Form::Job => read_job(payload, into)?,
@@ -150,15 +150,7 @@ fn read_in(port: PortId, side: Side, payload: &[u8], into: &mut Ahead) -> Result
     if address > 127 || endpoint > 15 || acked > 1 {
         return Err(CaptureFault::BadField);
     }
-    into.kept = Some(Kept::Port(
-        port,
-        side,
-        Act::In {
-            address,
-            endpoint,
-            acked: acked == 1,
-        },
-    ));
+    keep_in(&mut into.kept, port, side, address, endpoint, acked == 1);
     Ok(())
 }
 
@@ -250,4 +242,73 @@ fn read_job(payload: &[u8], into: &mut Ahead) -> Result<(), CaptureFault>
     });
     into.bytes.replace(&payload[9..]);
     Ok(())
+}
+
+/// Keeps a clock event. Where one is kept already nothing is written: a fresh record has room for a packet, which is cleared.
+#[inline(always)]
+fn keep_clock(kept: &mut Option<Kept>)
+    ensures { kept.new ≡ Some Kept.Clock }
+{
+    if let Some(Kept::Clock) = kept {
+        return;
+    }
+    *kept = Some(Kept::Clock);
+}
+
+/// Keeps an IN. Where one is kept already it is written over.
+#[inline(always)]
+fn keep_in(
+    kept: &mut Option<Kept>,
+    port: PortId,
+    side: Side,
+    address: u8,
+    endpoint: u8,
+    acked: bool,
+)
+    ensures { kept.new ≡ Some (Kept.Port port side (Act.In address endpoint acked)) }
+{
+    if let Some(record) = kept {
+        if write_in(record, port, side, address, endpoint, acked) {
+            return;
+        }
+    }
+    *kept = Some(Kept::Port(
+        port,
+        side,
+        Act::In {
+            address,
+            endpoint,
+            acked,
+        },
+    ));
+}
+
+/// Writes an IN over a record, field by field, where that is an IN too, and answers whether it is.
+#[inline(always)]
+fn write_in(
+    record: &mut Kept,
+    port: PortId,
+    side: Side,
+    address: u8,
+    endpoint: u8,
+    acked: bool,
+) -> bool
+    ensures { IsTrue result → record.new ≡ Kept.Port port side (Act.In address endpoint acked) }
+{
+    if let Kept::Port(its_port, its_side, act) = record {
+        if let Act::In {
+            address: its_address,
+            endpoint: its_endpoint,
+            acked: its_acked,
+        } = act
+        {
+            *its_address = address;
+            *its_endpoint = endpoint;
+            *its_acked = acked;
+            *its_port = port;
+            *its_side = side;
+            return true;
+        }
+    }
+    false
 }

@@ -360,7 +360,9 @@ impl Progress {
         }
         self.served += 1;
         self.tick = tick;
-        self.state = given;
+        if self.state != given {
+            self.state = given;
+        }
         Ok(true)
     }
 
