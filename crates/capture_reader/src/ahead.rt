@@ -5,11 +5,11 @@ ghost use Rattle.capture_reader.specs.Ahead.{ahead_of, kept_happening};
 
 use psd_base::{Act, Buffer, Event, Plug, PortId, Side, Tick, What};
 
-/// What a record says. The bytes of a reply, of a report or of a job's end stand beside it.
+/// What a record says. An act, and the bytes of a reply, of a report or of a job's end, stand beside it.
 #[derive(Drop)]
 pub enum Kept {
     Clock,
-    Port(PortId, Side, Act),
+    Port(PortId, Side),
     Attach(Plug),
     Detach(Plug),
     Reply {
@@ -29,12 +29,13 @@ pub enum Kept {
     },
 }
 
-/// The record that was read ahead, if there is one. `bytes` are those of the last reply, report or job's end that was
-/// read, so that no other record touches them.
+/// The record that was read ahead, if there is one. `act` is the last act that was read, and `bytes` are those of the
+/// last reply, report or job's end, so that no other record touches them.
 #[derive(Drop)]
 pub struct Ahead {
     pub tick: Tick,
     pub kept: Option<Kept>,
+    pub act: Act,
     pub bytes: Buffer,
 }
 
@@ -46,6 +47,7 @@ impl Ahead {
         Ahead {
             tick: 0,
             kept: None,
+            act: Act::Reset,
             bytes: Buffer::new(),
         }
     }
@@ -59,21 +61,21 @@ impl Ahead {
         match &self.kept {
             Some(kept) => Event {
                 tick: self.tick,
-                what: lend(kept, self.bytes.as_slice()),
+                what: lend(kept, &self.act, self.bytes.as_slice()),
             },
             None => unreachable!(),
         }
     }
 }
 
-/// What a record says, with these bytes of a reply, of a report or of a job's end.
+/// What a record says, with this act, and these bytes of a reply, of a report or of a job's end.
 #[inline(always)]
-fn lend<'a>(kept: &'a Kept, bytes: &'a [u8]) -> What<'a>
-    ensures { happening_of result ≡ kept_happening bytes.now kept.now }
+fn lend<'a>(kept: &'a Kept, act: &'a Act, bytes: &'a [u8]) -> What<'a>
+    ensures { happening_of result ≡ kept_happening act.now bytes.now kept.now }
 {
     match kept {
         Kept::Clock => What::Clock,
-        Kept::Port(port, side, act) => What::Port(*port, *side, act),
+        Kept::Port(port, side) => What::Port(*port, *side, act),
         Kept::Attach(plug) => What::Attach(*plug),
         Kept::Detach(plug) => What::Detach(*plug),
         Kept::Reply {

@@ -33,7 +33,7 @@ pub fn read_record(
         (λ event. moves_panel event.happening ≡ false)) }
 {
     match form {
-        Form::Clock => keep_clock(&mut into.kept),
+        Form::Clock => into.kept = Some(Kept::Clock),
         Form::Act(port, side, kind) => read_act(port, side, kind, payload, into)?,
         Form::Plug(plug, kind) => read_doing(plug, kind, payload, into)?,
         Form::Job => read_job(payload, into)?,
@@ -54,7 +54,7 @@ fn read_act(
 ) -> Result<(), CaptureFault>
     requires { IsTrue (has_fit_length (Kind.Act kind) (length payload.now)) }
     ensures ok { OnOk result (IsOkAnd (act_of kind payload.now)
-        (λ act. into.new ≡ record into.old { kept = Some (Kept.Port port side act) })) }
+        (λ act. into.new ≡ record into.old { kept = Some (Kept.Port port side); act = act })) }
     ensures err { IfErr result (λ why. act_of kind payload.now ≡ Err why) }
     ensures same { OnErr result (into.new ≡ into.old) }
 {
@@ -76,11 +76,12 @@ fn read_reset(
 ) -> Result<(), CaptureFault>
     requires { length payload.now ≡ 0 }
     ensures ok { OnOk result (IsOkAnd (act_of ActKind.Reset payload.now)
-        (λ act. into.new ≡ record into.old { kept = Some (Kept.Port port side act) })) }
+        (λ act. into.new ≡ record into.old { kept = Some (Kept.Port port side); act = act })) }
     ensures err { IfErr result (λ why. act_of ActKind.Reset payload.now ≡ Err why) }
     ensures same { OnErr result (into.new ≡ into.old) }
 {
-    into.kept = Some(Kept::Port(port, side, Act::Reset));
+    into.act = Act::Reset;
+    into.kept = Some(Kept::Port(port, side));
     Ok(())
 }
 
@@ -94,7 +95,7 @@ fn read_setup(
 ) -> Result<(), CaptureFault>
     requires { length payload.now ≡ 9 }
     ensures ok { OnOk result (IsOkAnd (act_of ActKind.Setup payload.now)
-        (λ act. into.new ≡ record into.old { kept = Some (Kept.Port port side act) })) }
+        (λ act. into.new ≡ record into.old { kept = Some (Kept.Port port side); act = act })) }
     ensures err { IfErr result (λ why. act_of ActKind.Setup payload.now ≡ Err why) }
     ensures same { OnErr result (into.new ≡ into.old) }
 {
@@ -106,7 +107,8 @@ fn read_setup(
         payload[1], payload[2], payload[3], payload[4], payload[5], payload[6], payload[7],
         payload[8],
     ]);
-    into.kept = Some(Kept::Port(port, side, Act::Setup { address, setup }));
+    write_setup(&mut into.act, address, setup);
+    into.kept = Some(Kept::Port(port, side));
     Ok(())
 }
 
@@ -116,7 +118,7 @@ fn read_out(port: PortId, side: Side, payload: &[u8], into: &mut Ahead) -> Resul
     requires at_least { 3 ≤ length payload.now }
     requires at_most { length payload.now ≤ 67 }
     ensures ok { OnOk result (IsOkAnd (act_of ActKind.Out payload.now)
-        (λ act. into.new ≡ record into.old { kept = Some (Kept.Port port side act) })) }
+        (λ act. into.new ≡ record into.old { kept = Some (Kept.Port port side); act = act })) }
     ensures err { IfErr result (λ why. act_of ActKind.Out payload.now ≡ Err why) }
     ensures same { OnErr result (into.new ≡ into.old) }
 {
@@ -124,16 +126,13 @@ fn read_out(port: PortId, side: Side, payload: &[u8], into: &mut Ahead) -> Resul
     if address > 127 || endpoint > 15 || toggle > 1 {
         return Err(CaptureFault::BadField);
     }
-    into.kept = Some(Kept::Port(
-        port,
-        side,
-        Act::Out {
-            address,
-            endpoint,
-            toggle: toggle == 1,
-            bytes: Packet::from_slice(&payload[3..]),
-        },
-    ));
+    into.act = Act::Out {
+        address,
+        endpoint,
+        toggle: toggle == 1,
+        bytes: Packet::from_slice(&payload[3..]),
+    };
+    into.kept = Some(Kept::Port(port, side));
     Ok(())
 }
 
@@ -142,7 +141,7 @@ fn read_out(port: PortId, side: Side, payload: &[u8], into: &mut Ahead) -> Resul
 fn read_in(port: PortId, side: Side, payload: &[u8], into: &mut Ahead) -> Result<(), CaptureFault>
     requires { length payload.now ≡ 3 }
     ensures ok { OnOk result (IsOkAnd (act_of ActKind.In payload.now)
-        (λ act. into.new ≡ record into.old { kept = Some (Kept.Port port side act) })) }
+        (λ act. into.new ≡ record into.old { kept = Some (Kept.Port port side); act = act })) }
     ensures err { IfErr result (λ why. act_of ActKind.In payload.now ≡ Err why) }
     ensures same { OnErr result (into.new ≡ into.old) }
 {
@@ -150,7 +149,8 @@ fn read_in(port: PortId, side: Side, payload: &[u8], into: &mut Ahead) -> Result
     if address > 127 || endpoint > 15 || acked > 1 {
         return Err(CaptureFault::BadField);
     }
-    keep_in(&mut into.kept, port, side, address, endpoint, acked == 1);
+    write_in(&mut into.act, address, endpoint, acked == 1);
+    into.kept = Some(Kept::Port(port, side));
     Ok(())
 }
 
@@ -164,7 +164,7 @@ fn read_doing(
 ) -> Result<(), CaptureFault>
     requires { IsTrue (has_fit_length (Kind.Plug kind) (length payload.now)) }
     ensures ok { OnOk result (IsOkAnd (doing_of kind plug payload.now) (λ doing.
-        IsSomeAnd into.new.kept (λ kept. kept_happening into.new.bytes kept ≡ AtFront doing))) }
+        IsSomeAnd into.new.kept (λ kept. kept_happening into.new.act into.new.bytes kept ≡ AtFront doing))) }
     ensures err { IfErr result (λ why. doing_of kind plug payload.now ≡ Err why) }
     ensures same { OnErr result (into.new ≡ into.old) }
 {
@@ -190,7 +190,7 @@ fn read_reply(plug: Plug, payload: &[u8], into: &mut Ahead) -> Result<(), Captur
     requires at_least { 9 ≤ length payload.now }
     requires at_most { length payload.now ≤ 9 + BLOCK_SIZE }
     ensures ok { OnOk result (IsOkAnd (doing_of PlugKind.Reply plug payload.now) (λ doing.
-        IsSomeAnd into.new.kept (λ kept. kept_happening into.new.bytes kept ≡ AtFront doing))) }
+        IsSomeAnd into.new.kept (λ kept. kept_happening into.new.act into.new.bytes kept ≡ AtFront doing))) }
     ensures err { IfErr result (λ why. doing_of PlugKind.Reply plug payload.now ≡ Err why) }
     ensures same { OnErr result (into.new ≡ into.old) }
 {
@@ -213,7 +213,7 @@ fn read_report(plug: Plug, payload: &[u8], into: &mut Ahead)
     requires at_least { 1 ≤ length payload.now }
     requires at_most { length payload.now ≤ 1 + PACKET_SIZE }
     ensures { IsOkAnd (doing_of PlugKind.Report plug payload.now) (λ doing.
-        IsSomeAnd into.new.kept (λ kept. kept_happening into.new.bytes kept ≡ AtFront doing)) }
+        IsSomeAnd into.new.kept (λ kept. kept_happening into.new.act into.new.bytes kept ≡ AtFront doing)) }
 {
     into.kept = Some(Kept::Report {
         plug,
@@ -227,7 +227,7 @@ fn read_report(plug: Plug, payload: &[u8], into: &mut Ahead)
 fn read_job(payload: &[u8], into: &mut Ahead) -> Result<(), CaptureFault>
     requires { IsTrue (has_fit_length Kind.Job (length payload.now)) }
     ensures ok { OnOk result (IsOkAnd (finished_in payload.now) (λ doing.
-        IsSomeAnd into.new.kept (λ kept. kept_happening into.new.bytes kept ≡ AtFront doing))) }
+        IsSomeAnd into.new.kept (λ kept. kept_happening into.new.act into.new.bytes kept ≡ AtFront doing))) }
     ensures err { IfErr result (λ why. finished_in payload.now ≡ Err why) }
     ensures same { OnErr result (into.new ≡ into.old) }
 {
@@ -244,71 +244,42 @@ fn read_job(payload: &[u8], into: &mut Ahead) -> Result<(), CaptureFault>
     Ok(())
 }
 
-/// Keeps a clock event. Where one is kept already nothing is written: a fresh record has room for a packet, which is cleared.
+/// Writes a setup over an act. Where that is one too, its fields alone are written: a fresh act has room for a packet,
+/// which is cleared.
 #[inline(always)]
-fn keep_clock(kept: &mut Option<Kept>)
-    ensures { kept.new ≡ Some Kept.Clock }
+fn write_setup(act: &mut Act, its_address: u8, its_setup: Setup)
+    ensures { act.new ≡ Act.Setup its_address its_setup }
 {
-    if let Some(Kept::Clock) = kept {
+    if let Act::Setup { address, setup } = act {
+        *address = its_address;
+        *setup = its_setup;
         return;
     }
-    *kept = Some(Kept::Clock);
+    *act = Act::Setup {
+        address: its_address,
+        setup: its_setup,
+    };
 }
 
-/// Keeps an IN. Where one is kept already it is written over.
+/// Writes an IN over an act. Where that is one too, its fields alone are written.
 #[inline(always)]
-fn keep_in(
-    kept: &mut Option<Kept>,
-    port: PortId,
-    side: Side,
-    address: u8,
-    endpoint: u8,
-    acked: bool,
-)
-    ensures { kept.new ≡ Some (Kept.Port port side (Act.In address endpoint acked)) }
+fn write_in(act: &mut Act, its_address: u8, its_endpoint: u8, was_acked: bool)
+    ensures { act.new ≡ Act.In its_address its_endpoint was_acked }
 {
-    if let Some(record) = kept {
-        if write_in(record, port, side, address, endpoint, acked) {
-            return;
-        }
+    if let Act::In {
+        address,
+        endpoint,
+        acked,
+    } = act
+    {
+        *address = its_address;
+        *endpoint = its_endpoint;
+        *acked = was_acked;
+        return;
     }
-    *kept = Some(Kept::Port(
-        port,
-        side,
-        Act::In {
-            address,
-            endpoint,
-            acked,
-        },
-    ));
-}
-
-/// Writes an IN over a record, field by field, where that is an IN too, and answers whether it is.
-#[inline(always)]
-fn write_in(
-    record: &mut Kept,
-    port: PortId,
-    side: Side,
-    address: u8,
-    endpoint: u8,
-    acked: bool,
-) -> bool
-    ensures { IsTrue result → record.new ≡ Kept.Port port side (Act.In address endpoint acked) }
-{
-    if let Kept::Port(its_port, its_side, act) = record {
-        if let Act::In {
-            address: its_address,
-            endpoint: its_endpoint,
-            acked: its_acked,
-        } = act
-        {
-            *its_address = address;
-            *its_endpoint = endpoint;
-            *its_acked = acked;
-            *its_port = port;
-            *its_side = side;
-            return true;
-        }
-    }
-    false
+    *act = Act::In {
+        address: its_address,
+        endpoint: its_endpoint,
+        acked: was_acked,
+    };
 }
