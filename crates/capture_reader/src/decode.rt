@@ -1,6 +1,6 @@
 //! The bytes of a capture: its header, and the heads of its records.
 ghost use Rattle.std.specs.Prelude.{◌≡◌, ◌+◌, ◌≤◌, ◌&&◌, nat_lt, nat_le, length, IsTrue, OnOk, IfOk, IfErr, Ok, Err};
-ghost use Rattle.capture_reader.specs.Capture.{header, kind_of, form_of, has_fit_length, kind_in, announced};
+ghost use Rattle.capture_reader.specs.Capture.{header, head_of, kind_of, form_of, has_fit_length, kind_in, announced};
 ghost use Rattle.capture_reader.specs.Fault.{record_stop};
 ghost use Rattle.capture_reader.specs.Source.{IsFaulty, IsFormWithin};
 ghost use Rattle.psd_base.specs.Port.{IsPort};
@@ -52,6 +52,20 @@ pub fn read_header(bytes: &[u8]) -> Result<u8, RecordFault>
         });
     }
     Ok(ports)
+}
+
+/// The head of a record.
+#[inline(always)]
+pub fn read_head(bytes: &[u8]) -> Head
+    requires { 8 ≤ length bytes.now }
+    ensures { result ≡ head_of bytes.now }
+{
+    Head {
+        tick: u32::from_le_bytes([bytes[0], bytes[1], bytes[2], bytes[3]]),
+        kind: bytes[4],
+        who: bytes[5],
+        length: u16::from_le_bytes([bytes[6], bytes[7]]),
+    }
 }
 
 /// The kind of this number.

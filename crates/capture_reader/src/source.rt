@@ -1,6 +1,6 @@
 //! A capture as a source of events, read one record ahead.
 use crate::ahead::Ahead;
-use crate::decode::{HEAD_SIZE, announce, read_header};
+use crate::decode::{HEAD_SIZE, announce, read_head, read_header};
 use crate::fault::RecordFault;
 use crate::form::{Form, Head};
 use crate::payload::read_record;
@@ -23,7 +23,7 @@ impl CaptureSource {
     ghost use Rattle.std.specs.Prelude.{◌≡◌, ℕ, ◌+◌, ◌<◌, ◌≤◌, ◌^◌, List, [], length, drop, true, false, Some, None, Ok, Err, option_map};
     ghost use Rattle.std.specs.Prelude.{IfOk, IfErr, IfSome, IfNone, IsSomeAnd, OnOk, OnErr};
     ghost use Rattle.capture_reader.specs.Ahead.{ahead_of};
-    ghost use Rattle.capture_reader.specs.Capture.{header, size_of, records};
+    ghost use Rattle.capture_reader.specs.Capture.{header, head_of, size_of, records};
     ghost use Rattle.capture_reader.specs.Fault.{record_stop};
     ghost use Rattle.capture_reader.specs.Schedule.{in_front};
     ghost use Rattle.capture_reader.specs.Source.{later, records_later, records_in, after_ahead, AnnouncesNext, EndsNow, FailedLook, IsFaulty, IsNext, LookFailed, OpenFailed};
@@ -162,15 +162,71 @@ impl CaptureSource {
             → EndIsTrue self.new.window ((D.told desk.new).left Input.Capture) }
         ensures only { OnlyReads Input.Capture (D.told desk.old) (D.told desk.new) }
     {
-        let bytes = self.window.bytes();
-        let head = Head {
-            tick: u32::from_le_bytes([bytes[0], bytes[1], bytes[2], bytes[3]]),
-            kind: bytes[4],
-            who: bytes[5],
-            length: u16::from_le_bytes([bytes[6], bytes[7]]),
-        };
+        let head = read_head(self.window.bytes());
+        if self.window.len() < HEAD_SIZE + head.length as usize {
+            self.look_behind_head(desk)
+        } else {
+            self.take_held(&head)
+        }
+    }
+
+    /// Looks at the next record, whose head is held, where its payload isn't.
+    #[cold]
+    #[inline(never)]
+    fn look_behind_head<D: Desk>(&mut self, desk: &mut D) -> Result<(), RecordFault>
+        requires whole { 8 ≤ length self.old.window.bytes }
+        requires ports { self.old.ports ≤ MAX_PORTS }
+        requires offset { self.old.offset < 2 ^ 63 }
+        ensures ports { self.new.ports ≡ self.old.ports }
+        ensures tick { self.old.tick ≤ self.new.tick }
+        ensures offset { self.new.offset ≤ self.old.offset + WINDOW_SIZE }
+        ensures ok { OnOk result (IsSomeAnd (ahead_of self.new.ahead) (λ event. IsNext self.new event
+            × (records_later self.old (D.told desk.old)
+            ≡ option_map (in_front event) (records_later self.new (D.told desk.new))))) }
+        ensures took { OnOk result (Took (records_in self.old) (records_in self.new) self.new.window.ended
+            ((D.told desk.old).left Input.Capture) ((D.told desk.new).left Input.Capture) 1) }
+        ensures held { OnErr result (HeldMore self.old.window self.new.window
+            ((D.told desk.old).left Input.Capture) ((D.told desk.new).left Input.Capture)) }
+        ensures err { IfErr result (LookFailed self.old.ports self.old.tick self.old.offset self.new.window
+            (D.told desk.old) (D.told desk.new)) }
+        ensures same { OnErr result (self.new ≡ record self.old { window = self.new.window }) }
+        ensures stays { OnErr result (records_later self.new (D.told desk.new)
+            ≡ records_later self.old (D.told desk.old)) }
+        ensures unread { self.old.window.ended ≡ true → (self.new.window.ended ≡ true)
+            × (desk.new ≡ desk.old) }
+        ensures ends { EndIsTrue self.old.window ((D.told desk.old).left Input.Capture)
+            → EndIsTrue self.new.window ((D.told desk.new).left Input.Capture) }
+        ensures only { OnlyReads Input.Capture (D.told desk.old) (D.told desk.new) }
+    {
+        let head = read_head(self.window.bytes());
         match announce(self.ports, self.tick, &head) {
             Ok(form) => self.look_at_payload(desk, &head, form),
+            Err(why) => Err(self.fault(why)),
+        }
+    }
+
+    /// The next record, which is held, becomes the one that was read ahead, if it is sound. Nothing comes between its
+    /// head and its payload, so that the compiler asks for its kind once.
+    #[inline(always)]
+    fn take_held(&mut self, head: &Head) -> Result<(), RecordFault>
+        requires whole { 8 ≤ length self.old.window.bytes }
+        requires head { head_of self.old.window.bytes ≡ head.now }
+        requires enough { size_of head.now ≤ length self.old.window.bytes }
+        requires ports { self.old.ports ≤ MAX_PORTS }
+        requires offset { self.old.offset < 2 ^ 63 }
+        ensures ports { self.new.ports ≡ self.old.ports }
+        ensures window { self.new.window.ended ≡ self.old.window.ended }
+        ensures tick { self.old.tick ≤ self.new.tick }
+        ensures offset { self.new.offset ≤ self.old.offset + WINDOW_SIZE }
+        ensures ahead { OnOk result (IsSomeAnd (ahead_of self.new.ahead) (λ event. IsNext self.new event
+            × ((left : List ℕ) → records self.old.ports self.old.tick self.old.offset 0 (coming self.old.window left)
+            ≡ in_front event (records self.new.ports self.new.tick self.new.offset 0 (coming self.new.window left))))) }
+        ensures err { (before after : Told) → IfErr result
+            (LookFailed self.old.ports self.old.tick self.old.offset self.new.window before after) }
+        ensures same { OnErr result (self.new ≡ self.old) }
+    {
+        match announce(self.ports, self.tick, head) {
+            Ok(form) => self.take_record(head, form),
             Err(why) => Err(self.fault(why)),
         }
     }

@@ -1,16 +1,32 @@
--- A faulty head shows its fault, whatever comes behind it.
-use Rattle.std.proofs.Common.{sym, ap, ◌∙◌, subst}
-use Rattle.capture_reader.specs.declared.fault.RecordFault.{RecordFault}
-use Rattle.capture_reader.specs.Capture.{announced}
-use Rattle.capture_reader.specs.Source.{LookFailed}
-use Rattle.capture_reader.proofs.Looks.{ends_head}
-use Rattle.capture_reader.proofs.Records.{head_read}
+-- A whole record that is held, as the desk sees it.
+use Rattle.std.proofs.Common.{Some}
+use Rattle.std.proofs.lemmas.Result.{on_ok_weaker}
+use Rattle.psd_base.specs.declared.outlet.Input.TheVariants as inputs
+use Rattle.capture_reader.specs.Ahead.{ahead_of}
+use Rattle.capture_reader.specs.Capture.{records}
+use Rattle.capture_reader.proofs.Counting.{record_took}
+use Rattle.capture_reader.proofs.Looks.{later_moves, some_and}
+use Rattle.capture_reader.proofs.Taken.{held_still}
 use Rattle.capture_reader.proofs.source.CaptureSource.look_at_head.Goals as goal
 
-pub returns-in-Err-clause-err : goal.returns-in-Err-clause-err
-returns-in-Err-clause-err g c =
+pub returns-else-len-head-clause-ok : goal.returns-else-len-head-clause-ok
+returns-else-len-head-clause-ok g c =
     let now = c.args.self.now in
-    let faults = g.D.Desk.told c.args.desk.now in
-    let head = head_read c.bytes-bytes.result.now now.window.bytes c.from_le_bytes.result c.from_le_bytes-2.result c.bytes-bytes.ensures c.from_le_bytes.ensures c.from_le_bytes-2.ensures in
-    subst (λ (fault : RecordFault). LookFailed now.ports now.tick now.offset now.window faults faults fault) (sym c.fault.ensures)
-    (ends_head now.ports now.tick now.offset now.window c.in-Err.why c.requires.whole (ap (announced now.ports now.tick) head ∙ sym c.in-Err.ensures.value))
+    let new = c.take_held.new.self in
+    let left = (g.D.Desk.told c.args.desk.now).left inputs.Capture in
+    on_ok_weaker c.take_held.result
+    (some_and (ahead_of new.ahead) (λ event found.
+    (found.0, later_moves (records now.ports now.tick now.offset 0) (records new.ports new.tick new.offset 0) now.window new.window (Some event) left found.1)))
+    c.take_held.ensures.ahead
+
+pub returns-else-len-head-clause-took : goal.returns-else-len-head-clause-took
+returns-else-len-head-clause-took g c =
+    let now = c.args.self.now in
+    let left = (g.D.Desk.told c.args.desk.now).left inputs.Capture in
+    on_ok_weaker c.take_held.result
+    (record_took now c.take_held.new.self now.window left left _ (held_still now.window left) c.take_held.ensures.window)
+    c.take_held.ensures.ahead
+
+pub returns-else-len-head-clause-err : goal.returns-else-len-head-clause-err
+returns-else-len-head-clause-err g c =
+    c.take_held.ensures.err (g.D.Desk.told c.args.desk.now) (g.D.Desk.told c.args.desk.now)
