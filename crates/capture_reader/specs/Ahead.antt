@@ -3,26 +3,27 @@ use Rattle.std.specs.Prelude.{ℕ, List, Option, option_map}
 use Rattle.psd_base.specs.declared.act.Act.{Act}
 use Rattle.psd_base.specs.Event.{Happening, PortActs, AtFront, TimePasses, PanelMoves, Attaches, Detaches, Replies, Reports, Finishes, Seen}
 use Rattle.capture_reader.specs.declared.ahead.Ahead.{Ahead}
+use Rattle.capture_reader.specs.declared.ahead.Answered.{Answered}
 use Rattle.capture_reader.specs.declared.ahead.Kept.{Kept}
 use Rattle.capture_reader.specs.declared.ahead.Kept.TheVariants as kept
 use Rattle.capture_reader.specs.declared.form.Said.{Said}
 
--- what a record says, with this act, and the bytes of a reply, of a report or of a job's end
-abbrev pub kept_happening : Act → List ℕ → Kept → Happening
-kept_happening act bytes kept.Clock = AtFront TimePasses
-kept_happening act bytes (kept.Port port side) = PortActs port side act
-kept_happening act bytes (kept.Attach plug) = AtFront (Attaches plug)
-kept_happening act bytes (kept.Detach plug) = AtFront (Detaches plug)
-kept_happening act bytes (kept.Reply plug life number status) = AtFront (Replies plug life number status bytes)
-kept_happening act bytes (kept.Report plug interface) = AtFront (Reports plug interface bytes)
-kept_happening act bytes (kept.Job life number status) = AtFront (Finishes life number status bytes)
+-- what a record says, with what stands beside it: an act, what is answered, and bytes
+abbrev pub kept_happening : Act → Answered → List ℕ → Kept → Happening
+kept_happening act answered bytes kept.Clock = AtFront TimePasses
+kept_happening act answered bytes (kept.Port port side) = PortActs port side act
+kept_happening act answered bytes (kept.Attach plug) = AtFront (Attaches plug)
+kept_happening act answered bytes (kept.Detach plug) = AtFront (Detaches plug)
+kept_happening act answered bytes (kept.Reply plug) = AtFront (Replies plug answered.life answered.number answered.status bytes)
+kept_happening act answered bytes (kept.Report plug interface) = AtFront (Reports plug interface bytes)
+kept_happening act answered bytes kept.Job = AtFront (Finishes answered.life answered.number answered.status bytes)
 
-abbrev pub kept_seen : ℕ → Act → List ℕ → Kept → Seen
-kept_seen tick act bytes saying = record { tick = tick; happening = kept_happening act bytes saying }
+abbrev pub kept_seen : ℕ → Act → Answered → List ℕ → Kept → Seen
+kept_seen tick act answered bytes saying = record { tick = tick; happening = kept_happening act answered bytes saying }
 
 -- the record that was read ahead
 abbrev pub ahead_of : Ahead → Option Seen
-ahead_of ahead = option_map (kept_seen ahead.tick ahead.act ahead.bytes) ahead.kept
+ahead_of ahead = option_map (kept_seen ahead.tick ahead.act ahead.answered ahead.bytes) ahead.kept
 
 -- what a line says
 abbrev pub said_seen : Said → Seen

@@ -5,37 +5,35 @@ ghost use Rattle.capture_reader.specs.Ahead.{ahead_of, kept_happening};
 
 use psd_base::{Act, Buffer, Event, Plug, PortId, Side, Tick, What};
 
-/// What a record says. An act, and the bytes of a reply, of a report or of a job's end, stand beside it.
+/// What a record says. An act, what a reply or a job's end answers, and the bytes of these and of a report stand beside
+/// it, so that it is small.
 #[derive(Drop)]
 pub enum Kept {
     Clock,
     Port(PortId, Side),
     Attach(Plug),
     Detach(Plug),
-    Reply {
-        plug: Plug,
-        life: u32,
-        number: u32,
-        status: u8,
-    },
-    Report {
-        plug: Plug,
-        interface: u8,
-    },
-    Job {
-        life: u32,
-        number: u32,
-        status: u8,
-    },
+    Reply(Plug),
+    Report { plug: Plug, interface: u8 },
+    Job,
 }
 
-/// The record that was read ahead, if there is one. `act` is the last act that was read, and `bytes` are those of the
-/// last reply, report or job's end, so that no other record touches them.
+/// To what a reply or a job's end answers, and how it ended.
+#[derive(Clone, Copy, Debug, PartialEq, Eq)]
+pub struct Answered {
+    pub life: u32,
+    pub number: u32,
+    pub status: u8,
+}
+
+/// The record that was read ahead, if there is one. `act` is the last act that was read, `answered` and `bytes` are
+/// those of the last record that has such, so that no other record touches them.
 #[derive(Drop)]
 pub struct Ahead {
     pub tick: Tick,
     pub kept: Option<Kept>,
     pub act: Act,
+    pub answered: Answered,
     pub bytes: Buffer,
 }
 
@@ -48,6 +46,11 @@ impl Ahead {
             tick: 0,
             kept: None,
             act: Act::Reset,
+            answered: Answered {
+                life: 0,
+                number: 0,
+                status: 0,
+            },
             bytes: Buffer::new(),
         }
     }
@@ -61,33 +64,28 @@ impl Ahead {
         match &self.kept {
             Some(kept) => Event {
                 tick: self.tick,
-                what: lend(kept, &self.act, self.bytes.as_slice()),
+                what: lend(kept, &self.act, &self.answered, self.bytes.as_slice()),
             },
             None => unreachable!(),
         }
     }
 }
 
-/// What a record says, with this act, and these bytes of a reply, of a report or of a job's end.
+/// What a record says, with what stands beside it.
 #[inline(always)]
-fn lend<'a>(kept: &'a Kept, act: &'a Act, bytes: &'a [u8]) -> What<'a>
-    ensures { happening_of result ≡ kept_happening act.now bytes.now kept.now }
+fn lend<'a>(kept: &'a Kept, act: &'a Act, answered: &'a Answered, bytes: &'a [u8]) -> What<'a>
+    ensures { happening_of result ≡ kept_happening act.now answered.now bytes.now kept.now }
 {
     match kept {
         Kept::Clock => What::Clock,
         Kept::Port(port, side) => What::Port(*port, *side, act),
         Kept::Attach(plug) => What::Attach(*plug),
         Kept::Detach(plug) => What::Detach(*plug),
-        Kept::Reply {
-            plug,
-            life,
-            number,
-            status,
-        } => What::Reply {
+        Kept::Reply(plug) => What::Reply {
             plug: *plug,
-            life: *life,
-            number: *number,
-            status: *status,
+            life: answered.life,
+            number: answered.number,
+            status: answered.status,
             bytes,
         },
         Kept::Report { plug, interface } => What::Report {
@@ -95,14 +93,10 @@ fn lend<'a>(kept: &'a Kept, act: &'a Act, bytes: &'a [u8]) -> What<'a>
             interface: *interface,
             bytes,
         },
-        Kept::Job {
-            life,
-            number,
-            status,
-        } => What::JobDone {
-            life: *life,
-            number: *number,
-            status: *status,
+        Kept::Job => What::JobDone {
+            life: answered.life,
+            number: answered.number,
+            status: answered.status,
             bytes,
         },
     }

@@ -54,18 +54,17 @@ pub fn read_header(bytes: &[u8]) -> Result<u8, RecordFault>
     Ok(ports)
 }
 
-/// The head of a record.
+/// Reads the head of a record. It is written to a place, since as a result it would be packed into one word and taken
+/// apart again.
 #[inline(always)]
-pub fn read_head(bytes: &[u8]) -> Head
+pub fn read_head(bytes: &[u8], head: &mut Head)
     requires { 8 ≤ length bytes.now }
-    ensures { result ≡ head_of bytes.now }
+    ensures { head.new ≡ head_of bytes.now }
 {
-    Head {
-        tick: u32::from_le_bytes([bytes[0], bytes[1], bytes[2], bytes[3]]),
-        kind: bytes[4],
-        who: bytes[5],
-        length: u16::from_le_bytes([bytes[6], bytes[7]]),
-    }
+    head.tick = u32::from_le_bytes([bytes[0], bytes[1], bytes[2], bytes[3]]);
+    head.kind = bytes[4];
+    head.who = bytes[5];
+    head.length = u16::from_le_bytes([bytes[6], bytes[7]]);
 }
 
 /// The kind of this number.

@@ -6,7 +6,7 @@ ghost use Rattle.capture_reader.specs.Source.{IsFormWithin};
 ghost use Rattle.capture_reader.specs.Taken.{moves_panel};
 ghost use Rattle.psd_base.specs.Event.{AtFront, HappensWithin};
 
-use crate::ahead::{Ahead, Kept};
+use crate::ahead::{Ahead, Answered, Kept};
 use crate::form::{ActKind, Form, Kind, PlugKind};
 use psd_base::{
     Act, BLOCK_SIZE, CaptureFault, PACKET_SIZE, Packet, Plug, PortId, Setup, Side, Tick,
@@ -164,7 +164,8 @@ fn read_doing(
 ) -> Result<(), CaptureFault>
     requires { IsTrue (has_fit_length (Kind.Plug kind) (length payload.now)) }
     ensures ok { OnOk result (IsOkAnd (doing_of kind plug payload.now) (λ doing.
-        IsSomeAnd into.new.kept (λ kept. kept_happening into.new.act into.new.bytes kept ≡ AtFront doing))) }
+        IsSomeAnd into.new.kept (λ kept. kept_happening into.new.act into.new.answered into.new.bytes kept
+        ≡ AtFront doing))) }
     ensures err { IfErr result (λ why. doing_of kind plug payload.now ≡ Err why) }
     ensures same { OnErr result (into.new ≡ into.old) }
 {
@@ -190,7 +191,8 @@ fn read_reply(plug: Plug, payload: &[u8], into: &mut Ahead) -> Result<(), Captur
     requires at_least { 9 ≤ length payload.now }
     requires at_most { length payload.now ≤ 9 + BLOCK_SIZE }
     ensures ok { OnOk result (IsOkAnd (doing_of PlugKind.Reply plug payload.now) (λ doing.
-        IsSomeAnd into.new.kept (λ kept. kept_happening into.new.act into.new.bytes kept ≡ AtFront doing))) }
+        IsSomeAnd into.new.kept (λ kept. kept_happening into.new.act into.new.answered into.new.bytes kept
+        ≡ AtFront doing))) }
     ensures err { IfErr result (λ why. doing_of PlugKind.Reply plug payload.now ≡ Err why) }
     ensures same { OnErr result (into.new ≡ into.old) }
 {
@@ -198,12 +200,12 @@ fn read_reply(plug: Plug, payload: &[u8], into: &mut Ahead) -> Result<(), Captur
     if status > 3 {
         return Err(CaptureFault::BadField);
     }
-    into.kept = Some(Kept::Reply {
-        plug,
+    into.answered = Answered {
         life: u32::from_le_bytes([payload[0], payload[1], payload[2], payload[3]]),
         number: u32::from_le_bytes([payload[4], payload[5], payload[6], payload[7]]),
         status,
-    });
+    };
+    into.kept = Some(Kept::Reply(plug));
     into.bytes.replace(&payload[9..]);
     Ok(())
 }
@@ -213,7 +215,8 @@ fn read_report(plug: Plug, payload: &[u8], into: &mut Ahead)
     requires at_least { 1 ≤ length payload.now }
     requires at_most { length payload.now ≤ 1 + PACKET_SIZE }
     ensures { IsOkAnd (doing_of PlugKind.Report plug payload.now) (λ doing.
-        IsSomeAnd into.new.kept (λ kept. kept_happening into.new.act into.new.bytes kept ≡ AtFront doing)) }
+        IsSomeAnd into.new.kept (λ kept. kept_happening into.new.act into.new.answered into.new.bytes kept
+        ≡ AtFront doing)) }
 {
     into.kept = Some(Kept::Report {
         plug,
@@ -227,7 +230,8 @@ fn read_report(plug: Plug, payload: &[u8], into: &mut Ahead)
 fn read_job(payload: &[u8], into: &mut Ahead) -> Result<(), CaptureFault>
     requires { IsTrue (has_fit_length Kind.Job (length payload.now)) }
     ensures ok { OnOk result (IsOkAnd (finished_in payload.now) (λ doing.
-        IsSomeAnd into.new.kept (λ kept. kept_happening into.new.act into.new.bytes kept ≡ AtFront doing))) }
+        IsSomeAnd into.new.kept (λ kept. kept_happening into.new.act into.new.answered into.new.bytes kept
+        ≡ AtFront doing))) }
     ensures err { IfErr result (λ why. finished_in payload.now ≡ Err why) }
     ensures same { OnErr result (into.new ≡ into.old) }
 {
@@ -235,11 +239,12 @@ fn read_job(payload: &[u8], into: &mut Ahead) -> Result<(), CaptureFault>
     if status > 3 {
         return Err(CaptureFault::BadField);
     }
-    into.kept = Some(Kept::Job {
+    into.answered = Answered {
         life: u32::from_le_bytes([payload[0], payload[1], payload[2], payload[3]]),
         number: u32::from_le_bytes([payload[4], payload[5], payload[6], payload[7]]),
         status,
-    });
+    };
+    into.kept = Some(Kept::Job);
     into.bytes.replace(&payload[9..]);
     Ok(())
 }

@@ -162,7 +162,13 @@ impl CaptureSource {
             → EndIsTrue self.new.window ((D.told desk.new).left Input.Capture) }
         ensures only { OnlyReads Input.Capture (D.told desk.old) (D.told desk.new) }
     {
-        let head = read_head(self.window.bytes());
+        let mut head = Head {
+            tick: 0,
+            kind: 0,
+            who: 0,
+            length: 0,
+        };
+        read_head(self.window.bytes(), &mut head);
         if self.window.len() < HEAD_SIZE + head.length as usize {
             self.look_behind_head(desk)
         } else {
@@ -198,7 +204,13 @@ impl CaptureSource {
             → EndIsTrue self.new.window ((D.told desk.new).left Input.Capture) }
         ensures only { OnlyReads Input.Capture (D.told desk.old) (D.told desk.new) }
     {
-        let head = read_head(self.window.bytes());
+        let mut head = Head {
+            tick: 0,
+            kind: 0,
+            who: 0,
+            length: 0,
+        };
+        read_head(self.window.bytes(), &mut head);
         match announce(self.ports, self.tick, &head) {
             Ok(form) => self.look_at_payload(desk, &head, form),
             Err(why) => Err(self.fault(why)),
