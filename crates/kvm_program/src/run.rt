@@ -145,6 +145,7 @@ fn obey<D: Desk>(alloc: Global, words: &Words, desk: &mut D) -> Result<Summary, 
 /// and no life is routed to two. After a read of the capture or the script that failed, that part, and those of console and log, are
 /// exactly their texts over the shortest part of the events that holds every whole record, or line with its line feed, among
 /// the bytes that were taken of that input. `check` judges the rules alone.
+#[inline(always)] // where the desk is the caller's own, the loop over the events knows where its buffers lie
 pub fn kvm<D: Desk>(alloc: Global, words: &Words, desk: &mut D) -> Result<Summary, Stop>
     // What each command promises.
     ensures replay { words.now ≡ words_of Command.Replay
