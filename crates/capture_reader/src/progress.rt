@@ -96,9 +96,11 @@ impl Progress {
         ensures counts { IfOk result (λ progress. (progress.limit ≡ limit) × (progress.served ≡ 0)
             × (progress.tick ≡ 0)
             × (progress.state ≡ State.Waiting) × (progress.capture.ports ≡ capture.ports)) }
-        ensures rest { let before = merged limit (records_later capture (D.told desk.old)) (lines_later script (D.told desk.old)) in
+        ensures rest { let before = merged limit (records_later capture (D.told desk.old))
+            (lines_later script (D.told desk.old)) in
             IfOk result (λ progress. rest_told (reading progress) (D.told desk.new) ≡ before) }
-        ensures looked { let before = merged limit (records_later capture (D.told desk.old)) (lines_later script (D.told desk.old)) in
+        ensures looked { let before = merged limit (records_later capture (D.told desk.old))
+            (lines_later script (D.told desk.old)) in
             OnOk result (IsLooked before) }
         ensures took { IfOk result (λ progress. TookBoth (records_in capture) (lines_in script)
             (reading progress) (D.told desk.old) (D.told desk.new)) }
@@ -107,7 +109,8 @@ impl Progress {
         ensures ends { EndIsTrue capture.window ((D.told desk.old).left Input.Capture)
             → EndIsTrue script.window ((D.told desk.old).left Input.Script)
             → IfOk result (λ progress. EndsAreTrue (reading progress) (D.told desk.new)) }
-        ensures err { let before = merged limit (records_later capture (D.told desk.old)) (lines_later script (D.told desk.old)) in
+        ensures err { let before = merged limit (records_later capture (D.told desk.old))
+            (lines_later script (D.told desk.old)) in
             IfErr result (λ fault. NewFailed before (D.told desk.old) (D.told desk.new) ⊥ (stop_of fault)) }
         ensures only { ReadsSources (D.told desk.old) (D.told desk.new) }
     {
@@ -133,22 +136,27 @@ impl Progress {
             × (progress.tick ≡ 0)
             × (progress.state ≡ State.Waiting) × (progress.capture.ports ≡ capture.ports)) }
         ensures rest { (left : Option (List ℕ))
-            → let before = merged limit (records_later capture (D.told desk.old)) (lines_with_ahead script left) in
+            → let before = merged limit (records_later capture (D.told desk.old))
+            (lines_with_ahead script left) in
             IfOk result (λ progress. rest (reading progress) ((D.told desk.new).left Input.Capture) left
             ≡ before) }
         ensures looked { (left : Option (List ℕ))
-            → let before = merged limit (records_later capture (D.told desk.old)) (lines_with_ahead script left) in
+            → let before = merged limit (records_later capture (D.told desk.old))
+            (lines_with_ahead script left) in
             OnOk result (IsLooked before) }
         ensures script { IfOk result (λ progress. progress.script ≡ script) }
         ensures ends { EndIsTrue capture.window ((D.told desk.old).left Input.Capture)
-            → IfOk result (λ progress. EndIsTrue progress.capture.window ((D.told desk.new).left Input.Capture)) }
+            → IfOk result
+            (λ progress. EndIsTrue progress.capture.window ((D.told desk.new).left Input.Capture)) }
         ensures took { IfOk result (λ progress. TookBoth (records_in capture)
-            (lines_held (script_reading State.Waiting script)) (reading progress) (D.told desk.old) (D.told desk.new)) }
+            (lines_held (script_reading State.Waiting script)) (reading progress) (D.told desk.old)
+            (D.told desk.new)) }
         ensures first { (lines : List ℕ → ℕ)
             → IfErr result (λ fault. FailsFirst (records_in capture) lines (D.told desk.old) (D.told desk.new)
             (stop_of fault)) }
         ensures err { (left : Option (List ℕ))
-            → let before = merged limit (records_later capture (D.told desk.old)) (lines_with_ahead script left) in
+            → let before = merged limit (records_later capture (D.told desk.old))
+            (lines_with_ahead script left) in
             IfErr result (λ fault. NewFailed before (D.told desk.old) (D.told desk.new) ⊥ (stop_of fault)) }
         ensures only { OnlyReads Input.Capture (D.told desk.old) (D.told desk.new) }
     {
@@ -317,7 +325,8 @@ impl Progress {
         ensures going { result ≡ Ok true → (reading self.new).stopped ≡ None }
         ensures order { result ≡ Ok true → IfSome (reading self.new).given
             (IsInOrder self.old.tick self.new.tick self.new.capture.ports) }
-        ensures end { result ≡ Ok false → (self.new ≡ as_waiting self.old) × (ahead_of self.old.capture.ahead ≡ None)
+        ensures end { result ≡ Ok false
+            → (self.new ≡ as_waiting self.old) × (ahead_of self.old.capture.ahead ≡ None)
             × (line_of self.old.script.ahead ≡ None)
             × ShowsOver None (reading self.new) }
         ensures met { result ≡ Ok false → (self.new.capture.window.ended ≡ true)
@@ -332,7 +341,8 @@ impl Progress {
             (lines_held (reading (as_waiting self.old)).script) (reading self.new) told told }
         ensures stop { IfErr result (λ fault. (fault ≡ Fault.TooMany)
             × (self.new ≡ record self.old { state = State.Stopped Fault.TooMany })
-            × ShowsOver (Some (stop_of Fault.TooMany)) (reading self.new) × (self.old.served ≡ self.old.limit)) }
+            × ShowsOver (Some (stop_of Fault.TooMany)) (reading self.new)
+            × (self.old.served ≡ self.old.limit)) }
     {
         match next_source(&self.capture.ahead, &self.script.ahead) {
             Next::Record => self.go_on(State::GivenRecord, self.capture.tick),

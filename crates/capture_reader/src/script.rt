@@ -88,7 +88,8 @@ impl ScriptSource {
         ensures line { self.new.line ≤ self.old.line + 1 }
         ensures read { OnOk result ((left : List ℕ)
             → lines self.old.ports self.old.tick self.old.line 0 (coming self.old.window left)
-            ≡ after_ahead (line_of self.new.ahead) (lines self.new.ports self.new.tick self.new.line 0 (coming self.new.window left))) }
+            ≡ after_ahead (line_of self.new.ahead)
+            (lines self.new.ports self.new.tick self.new.line 0 (coming self.new.window left))) }
         ensures ahead { OnOk result (IfSome (line_of self.new.ahead) (IsNextLine self.new)) }
         ensures end { OnOk result (IfNone (line_of self.new.ahead) (LinesEndNow self.new None)) }
         ensures counted { OnOk result (self.old.window.ended ≡ false → (more : List ℕ)

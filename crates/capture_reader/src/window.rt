@@ -28,9 +28,16 @@ impl Model for Window {
 
     ghost Value = { Held };
 
-    ghost view = { λ window. record { bytes = slice_range window.buffer.items window.start window.end; ended = window.ended } };
+    ghost view = { λ window. record {
+      bytes = slice_range window.buffer.items window.start window.end;
+      ended = window.ended;
+    } };
 
-    ghost invariant = { λ window. record { ordered : window.start ≤ window.end; within : window.end ≤ WINDOW_SIZE; size : length window.buffer.items ≡ WINDOW_SIZE } };
+    ghost invariant = { λ window. record {
+      ordered : window.start ≤ window.end;
+      within : window.end ≤ WINDOW_SIZE;
+      size : length window.buffer.items ≡ WINDOW_SIZE;
+    } };
 }
 
 impl Window {

@@ -237,7 +237,8 @@ impl ConsolePlug {
             → AttachmentStands plug rules self.new.attachment (Began (self.old.life + 1) tick ∷ calls) }
         ensures orders { (plug : Plug) (rules : RuleSet) (calls : List Call)
             → AttachmentStands plug rules self.old.attachment calls
-            → orders.new.items ≡ orders.old.items ++ (power_orders self.old.plug None (Some (self.old.life + 1))
+            → orders.new.items
+            ≡ orders.old.items ++ (power_orders self.old.plug None (Some (self.old.life + 1))
             ++ first_ask plug true (self.old.life + 1)) }
         ensures few_orders { length orders.new.items ≤ length orders.old.items + 2 }
     {

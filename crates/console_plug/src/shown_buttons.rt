@@ -73,8 +73,10 @@ impl ShownButtons {
     /// The mouse is taken off, or the switch goes dark.
     #[tactic(auto, unfolding(crate::specs::Shown::shown_buttons))]
     pub fn clear(&mut self)
-        ensures detached { (rules : RuleSet) (past : List Moment) → ButtonsStand rules self.new (Detached ∷ past) }
-        ensures darkened { (rules : RuleSet) (past : List Moment) → ButtonsStand rules self.new (Darkened ∷ past) }
+        ensures detached { (rules : RuleSet) (past : List Moment)
+            → ButtonsStand rules self.new (Detached ∷ past) }
+        ensures darkened { (rules : RuleSet) (past : List Moment)
+            → ButtonsStand rules self.new (Darkened ∷ past) }
     {
         let each = [0; INTERFACES_MAX];
         self.all = all_buttons(&each);

@@ -69,8 +69,10 @@ impl ShownKeys {
     /// The keyboard is taken off, or the switch goes dark.
     #[tactic(auto, unfolding(crate::specs::Shown::shown_keys))]
     pub fn clear(&mut self)
-        ensures detached { (rules : RuleSet) (past : List Moment) → KeysStand rules self.new (Detached ∷ past) }
-        ensures darkened { (rules : RuleSet) (past : List Moment) → KeysStand rules self.new (Darkened ∷ past) }
+        ensures detached { (rules : RuleSet) (past : List Moment)
+            → KeysStand rules self.new (Detached ∷ past) }
+        ensures darkened { (rules : RuleSet) (past : List Moment)
+            → KeysStand rules self.new (Darkened ∷ past) }
     {
         let each = [KeySet::new(); INTERFACES_MAX];
         self.all = all_keys(&each);

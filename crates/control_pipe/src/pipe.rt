@@ -32,7 +32,11 @@ impl<F> Model for Pipe<F> {
 
     ghost Value = { PipeValue F };
 
-    ghost view = { λ pipe. record { function = pipe.function; registers = pipe.registers; progress = pipe.transfer } };
+    ghost view = { λ pipe. record {
+      function = pipe.function;
+      registers = pipe.registers;
+      progress = pipe.transfer;
+    } };
 }
 
 impl<F: Function> Pipe<F> {
@@ -138,7 +142,8 @@ impl<F: Function> Pipe<F> {
     fn step(&mut self, tick: Tick, act: &Act, answer: &mut Answer) -> Effect
         ensures registers { self.new.registers ≡ registers_at self.old.registers self.old.progress act.now }
         ensures progress { self.new.progress ≡ progress_at self.old.registers self.old.progress
-            (offer_at (F.descriptor_of self.old.function) (F.class_input_of self.old.function) F.takes_class act.now) act.now }
+            (offer_at (F.descriptor_of self.old.function)
+            (F.class_input_of self.old.function) F.takes_class act.now) act.now }
         ensures function { self.new.function ≡ completed_function F.after_class tick
             (completed_by self.old.registers self.old.progress act.now) self.old.function }
         ensures answer { answer.new ≡ answer_at self.old.registers self.old.progress act.now }
@@ -194,7 +199,8 @@ impl<F: Function> Pipe<F> {
     fn begin(&mut self, setup: &Setup)
         ensures progress { self.new.progress
             ≡ begun_progress PACKET_SIZE setup.now (due_for self.old.registers
-            (offer_for (F.descriptor_of self.old.function) (F.class_input_of self.old.function) F.takes_class setup.now)
+            (offer_for (F.descriptor_of self.old.function)
+            (F.class_input_of self.old.function) F.takes_class setup.now)
             (request_of setup.now)) }
         ensures registers { self.new.registers ≡ self.old.registers }
         ensures function { self.new.function ≡ self.old.function }
@@ -224,7 +230,8 @@ impl<F: Function> Pipe<F> {
     fn begin_class_in(&mut self, setup: &Setup)
         requires reads { 128 ≤ setup.now.kind }
         ensures progress { self.new.progress ≡ begun_progress PACKET_SIZE setup.now
-            (if is_configured self.old.registers then F.class_input_of self.old.function setup.now else None) }
+            (if is_configured self.old.registers
+            then F.class_input_of self.old.function setup.now else None) }
         ensures registers { self.new.registers ≡ self.old.registers }
         ensures function { self.new.function ≡ self.old.function }
     {

@@ -44,7 +44,8 @@ impl Model for Transfer {
 
     ghost view = { λ transfer. progress_in PACKET_SIZE transfer.stage transfer.setup transfer.bytes };
 
-    ghost invariant = { λ transfer. IsSound PACKET_SIZE PACKET_SIZE transfer.stage transfer.setup transfer.bytes };
+    ghost invariant = { λ transfer.
+        IsSound PACKET_SIZE PACKET_SIZE transfer.stage transfer.setup transfer.bytes };
 }
 
 impl Transfer {

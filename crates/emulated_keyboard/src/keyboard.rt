@@ -86,7 +86,8 @@ impl Keyboard {
     /// Whether the port is selected.
     pub fn is_entered(&self) -> bool
         ensures value { result ≡ self.now.entered }
-        ensures answer { (past : List KeyboardEntry) → KeyboardStands self.now past → result ≡ is_entered past }
+        ensures answer { (past : List KeyboardEntry) → KeyboardStands self.now past
+            → result ≡ is_entered past }
     {
         self.entered
     }

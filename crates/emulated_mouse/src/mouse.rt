@@ -292,7 +292,8 @@ impl Mouse {
     #[inline(never)]
     fn give(&mut self, given: Given, acked: bool, answer: &mut Answer)
         ensures step { self.new ≡ given_step given acked self.old }
-        ensures answer { answer.new ≡ answer_of given self.old.toggle (made_report given self.old.rest self.old.last) }
+        ensures answer { answer.new
+            ≡ answer_of given self.old.toggle (made_report given self.old.rest self.old.last) }
     {
         match given {
             Given::Again => {}

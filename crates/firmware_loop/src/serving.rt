@@ -35,13 +35,15 @@ pub fn serve(switch: &mut Switch, batch: &Batch, lanes: &mut Lanes)
     ensures stands { (rules : RuleSet) (past : List Seen) → StandsFor rules switch.old past
         → StandsFor rules switch.new (onto (schedule batch.now.items) past) }
     ensures lines { (rules : RuleSet) (past : List Seen) → StandsFor rules switch.old past
-        → (port : ℕ) → IsPort port → lane_of lanes.new port ≡ lane_lines rules port (schedule batch.now.items) past }
+        → (port : ℕ) → IsPort port
+        → lane_of lanes.new port ≡ lane_lines rules port (schedule batch.now.items) past }
     ensures jobs { (rules : RuleSet) (past : List Seen) → StandsFor rules switch.old past
         → jobs_of lanes.new ≡ schedule_jobs rules (schedule batch.now.items) past }
     ensures served { switch.new.served ≡ switch.old.served + length batch.now.items }
 
     // The switch goes to each port with acts once at most.
-    ensures visits { switch.new.visits.count ≤ switch.old.visits.count + ports_with_acts MAX_PORTS batch.now.items }
+    ensures visits { switch.new.visits.count
+        ≤ switch.old.visits.count + ports_with_acts MAX_PORTS batch.now.items }
 
     ensures ports { port_total switch.new ≡ port_total switch.old }
 {
@@ -74,7 +76,8 @@ fn serve_lanes(
     ensures jobs { (rules : RuleSet) (past : List Seen) → StandsFor rules switch.old past
         → jobs.new ≡ schedule_jobs rules (schedule events.now) past }
     ensures served { switch.new.served ≡ switch.old.served + length events.now }
-    ensures visits { switch.new.visits.count ≤ switch.old.visits.count + ports_with_acts MAX_PORTS events.now }
+    ensures visits { switch.new.visits.count
+        ≤ switch.old.visits.count + ports_with_acts MAX_PORTS events.now }
     ensures ports { port_total switch.new ≡ port_total switch.old }
 {
     jobs.clear();
@@ -111,7 +114,8 @@ fn serve_lane(
         → jobs.new ≡ jobs.old ++ schedule_jobs rules (schedule (at_port number events.now)) past }
     ensures few_jobs { length jobs.new ≤ length jobs.old + length (at_port number events.now) }
     ensures served { switch.new.served ≡ switch.old.served + length (at_port number events.now) }
-    ensures visits { switch.new.visits.count ≤ switch.old.visits.count + one_if_some (at_port number events.now) }
+    ensures visits { switch.new.visits.count
+        ≤ switch.old.visits.count + one_if_some (at_port number events.now) }
     ensures ports { port_total switch.new ≡ port_total switch.old }
     ensures numbered { AreActsOfPorts events.now }
 {
@@ -168,7 +172,8 @@ fn serve_act(
     ensures stands { (rules : RuleSet) (past : List Seen) → StandsFor rules switch.old past
         → StandsFor rules switch.new (seen_of event.now ∷ past) }
     ensures line { (rules : RuleSet) (past : List Seen) → StandsFor rules switch.old past
-        → lane.new ≡ lane.old ++ line_of (view rules event.now.port past) event.now.tick event.now.side event.now.act ∷ [] }
+        → lane.new ≡ lane.old
+        ++ line_of (view rules event.now.port past) event.now.tick event.now.side event.now.act ∷ [] }
     ensures jobs { (rules : RuleSet) (past : List Seen) → StandsFor rules switch.old past
         → jobs.new ≡ jobs.old ++ jobs_among event.now.tick (orders_at rules (seen_of event.now) past) }
     ensures count { length lane.new ≡ length lane.old + 1 }

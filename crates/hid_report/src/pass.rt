@@ -355,7 +355,10 @@ impl Pass {
     fn usage_maximum(&mut self, high: Datum) -> Result<(), LayoutWhy>
         ensures fault { result ≡ verdict (maximum_fault high self.old) }
         ensures step { OnOk result (self.new ≡ record self.old {
-          usages = record { items = self.old.usages.items ++ range_to self.old.current.page self.old.minimum high };
+          usages = record {
+            items = self.old.usages.items
+                ++ range_to self.old.current.page self.old.minimum high;
+          };
           minimum = None;
         }) }
     {

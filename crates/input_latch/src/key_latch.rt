@@ -124,7 +124,8 @@ impl KeyLatch {
         requires { offered.old.taken + offered.old.refused < 2 ^ 10 }
         ensures step { key_state self.new offered.new
             ≡ steps_of (key_state self.old offered.old) (map Release (keys_of class keys.now)) }
-        ensures few { offered.new.taken + offered.new.refused ≤ offered.old.taken + offered.old.refused + 2 ^ 8 }
+        ensures few { offered.new.taken + offered.new.refused
+            ≤ offered.old.taken + offered.old.refused + 2 ^ 8 }
     {
         let mut next = class.first();
         let last = class.last();
@@ -139,7 +140,8 @@ impl KeyLatch {
         requires { offered.old.taken + offered.old.refused < 2 ^ 10 }
         ensures step { key_state self.new offered.new
             ≡ steps_of (key_state self.old offered.old) (map Press (keys_of class keys.now)) }
-        ensures few { offered.new.taken + offered.new.refused ≤ offered.old.taken + offered.old.refused + 2 ^ 8 }
+        ensures few { offered.new.taken + offered.new.refused
+            ≤ offered.old.taken + offered.old.refused + 2 ^ 8 }
     {
         let mut next = class.first();
         let last = class.last();

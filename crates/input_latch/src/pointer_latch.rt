@@ -125,7 +125,8 @@ impl PointerLatch {
         requires { offered.old.taken + offered.old.refused < 2 ^ 10 }
         ensures step { pointer_state self.new offered.new ≡ steps_of (pointer_state self.old offered.old)
             (map Release (only_in self.old.last buttons) ++ map Press (only_in buttons self.old.last)) }
-        ensures few { offered.new.taken + offered.new.refused ≤ offered.old.taken + offered.old.refused + 2 ^ 8 }
+        ensures few { offered.new.taken + offered.new.refused
+            ≤ offered.old.taken + offered.old.refused + 2 ^ 8 }
     {
         let last = self.last;
         if last == buttons {
@@ -140,7 +141,8 @@ impl PointerLatch {
         requires { offered.old.taken + offered.old.refused < 2 ^ 10 }
         ensures step { pointer_state self.new offered.new
             ≡ steps_of (pointer_state self.old offered.old) (map Release (only_in last now)) }
-        ensures few { offered.new.taken + offered.new.refused ≤ offered.old.taken + offered.old.refused + 2 ^ 4 }
+        ensures few { offered.new.taken + offered.new.refused
+            ≤ offered.old.taken + offered.old.refused + 2 ^ 4 }
     {
         for button in 1..BUTTONS + 1 {
             if is_only_in(last, now, button) {
@@ -154,7 +156,8 @@ impl PointerLatch {
         requires { offered.old.taken + offered.old.refused < 2 ^ 11 }
         ensures step { pointer_state self.new offered.new
             ≡ steps_of (pointer_state self.old offered.old) (map Press (only_in now last)) }
-        ensures few { offered.new.taken + offered.new.refused ≤ offered.old.taken + offered.old.refused + 2 ^ 4 }
+        ensures few { offered.new.taken + offered.new.refused
+            ≤ offered.old.taken + offered.old.refused + 2 ^ 4 }
     {
         for button in 1..BUTTONS + 1 {
             if is_only_in(now, last, button) {
@@ -212,7 +215,8 @@ impl PointerLatch {
     fn offer_motion(&mut self, sample: &Sample, offered: &mut Offered)
         requires { offered.old.taken + offered.old.refused + 1 < 2 ^ 16 }
         ensures { pointer_state self.new offered.new
-            ≡ step_of (pointer_state self.old offered.old) (Motion sample.now.x sample.now.y sample.now.wheel) }
+            ≡ step_of (pointer_state self.old offered.old)
+            (Motion sample.now.x sample.now.y sample.now.wheel) }
     {
         match joined_with(self.waiting.back().copied(), sample) {
             Join::Sum(x, y, wheel) => {

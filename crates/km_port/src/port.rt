@@ -139,7 +139,8 @@ impl Port<Live> {
         ensures entered { IsEntered false self.new.state.pipe.function }
         ensures stands { (past : List Item) → LiveStands self.old past
             → LiveStands self.new (item tick (Own Km act.now) ∷ past) }
-        ensures answer { (past : List Item) → LiveStands self.old past → answer.new ≡ answer_to past tick Km act.now }
+        ensures answer { (past : List Item) → LiveStands self.old past
+            → answer.new ≡ answer_to past tick Km act.now }
     {
         if is_at_control_endpoint(act) {
             let _ = control(&mut self.state.pipe, tick, act, answer);
@@ -165,9 +166,12 @@ fn is_at_control_endpoint(act: &Act) -> bool
 #[inline(never)]
 fn control(pipe: &mut Pipe<KmFunction>, tick: Tick, act: &Act, answer: &mut Answer) -> Effect
     requires { IsTrue (is_control_act act.now) }
-    ensures entered { (entered : Bool) → IsEntered entered pipe.old.function → IsEntered entered pipe.new.function }
-    ensures stands { (parts : Parts) → KmStands pipe.old parts → KmStands pipe.new (with_control_act tick act.now parts) }
-    ensures answer { (parts : Parts) → KmStands pipe.old parts → answer.new ≡ control_answer parts.control act.now }
+    ensures entered { (entered : Bool) → IsEntered entered pipe.old.function
+        → IsEntered entered pipe.new.function }
+    ensures stands { (parts : Parts) → KmStands pipe.old parts
+        → KmStands pipe.new (with_control_act tick act.now parts) }
+    ensures answer { (parts : Parts) → KmStands pipe.old parts
+        → answer.new ≡ control_answer parts.control act.now }
     ensures effect { (parts : Parts) → KmStands pipe.old parts
         → result ≡ control_effect parts.control (km_act parts act.now) }
 {
@@ -189,10 +193,12 @@ fn control_owned(
     ensures entered { IsEntered true pipe.new.function }
     ensures port { console.new.state.port ≡ console.old.state.port }
     ensures gives { console.new.gives ≡ console.old.gives }
-    ensures stands { (parts : Parts) → KmStands pipe.old parts → KmStands pipe.new (with_control_act tick act.now parts) }
+    ensures stands { (parts : Parts) → KmStands pipe.old parts
+        → KmStands pipe.new (with_control_act tick act.now parts) }
     ensures console { (parts : Parts) → KmStands pipe.old parts → LatchesStand console.old parts
         → LatchesStand console.new (with_control_act tick act.now parts) }
-    ensures answer { (parts : Parts) → KmStands pipe.old parts → answer.new ≡ control_answer parts.control act.now }
+    ensures answer { (parts : Parts) → KmStands pipe.old parts
+        → answer.new ≡ control_answer parts.control act.now }
 {
     let effect = control(pipe, tick, act, answer);
     console.flush_at(effect);

@@ -8,7 +8,7 @@ use Rattle.psd_base.specs.Event.{Seen}
 use Rattle.psd_base.specs.History.{number_of}
 use Rattle.psd_base.specs.Port.{IsPort}
 use Rattle.peripheral_filter.specs.declared.rule.RuleSet.{RuleSet}
-use Rattle.port_transcript.specs.declared.port.TheConstants.{PORT_LINE_SIZE}
+use Rattle.psd_base.specs.declared.render.TheConstants.{RENDERED_MAX}
 use Rattle.switch_core.specs.Gives.{Gives, gives_at}
 use Rattle.port_model.specs.Lines.{line_at}
 use Rattle.kvm_program.specs.declared.tally.Tally.{Tally}
@@ -39,7 +39,7 @@ Counts-more rules (Ok done) old new gives event past is counts bytes left refuse
 -- there is room for one event more
 pub HasRoom-more : (result : Result (Unit {0}) Stop) (old new : Tally) (line : Option (ℕ × Line)) (served served_after : ℕ)
     → served_after ≡ served + 1 → HasRoom old served
-    → ((port : ℕ) → length (text_at port line) ≤ PORT_LINE_SIZE)
+    → ((port : ℕ) → length (text_at port line) ≤ RENDERED_MAX)
     → OnOk result ((port : ℕ) → IsPort port → bytes_at new port ≡ bytes_at old port + length (text_at port line))
     → OnOk result (new.left ≤ old.left + NOTES_MAX) → OnOk result (new.refused ≤ old.refused + NOTES_MAX)
     → OnOk result (HasRoom new served_after)

@@ -17,7 +17,7 @@ use Rattle.peripheral_filter.specs.declared.rule.RuleSet.{RuleSet}
 use Rattle.capture_reader.specs.Schedule.{Schedule, in_front}
 use Rattle.capture_reader.specs.Reader.{EndsAreTrue, Reading, TookBoth, lines_held, records_held, rest_told}
 use Rattle.capture_reader.specs.Taken.{Took, is_from, shortest, whole_lines, whole_records}
-use Rattle.port_transcript.specs.declared.port.TheConstants.{PORT_LINE_SIZE}
+use Rattle.psd_base.specs.declared.render.TheConstants.{RENDERED_MAX}
 use Rattle.switch_core.specs.declared.switch.Switch.{Switch}
 use Rattle.switch_core.specs.StandsFor.{StandsFor, port_total}
 use Rattle.kvm_program.specs.declared.tally.Tally.{Tally}
@@ -85,7 +85,7 @@ pub record Finished (rules : RuleSet) (schedule : Schedule) (start after : Told)
 
 -- so many events leave room for the counts of one more
 pub record HasRoom (tally : Tally) (served : ℕ) : Type 0 where
-  pub bytes : (port : ℕ) → IsPort port → bytes_at tally port ≤ PORT_LINE_SIZE * served
+  pub bytes : (port : ℕ) → IsPort port → bytes_at tally port ≤ RENDERED_MAX * served
   pub left : tally.left ≤ NOTES_MAX * served
   pub refused : tally.refused ≤ NOTES_MAX * served
 

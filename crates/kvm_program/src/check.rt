@@ -29,7 +29,8 @@ pub fn check<D: Desk>(alloc: Global, desk: &mut D) -> Result<Summary, Stop>
 
 /// Reports how many entries each list has.
 fn report_lists<D: Desk>(desk: &mut D, rules: &RuleSet) -> Result<(), Stop>
-    ensures wrote { WroteTo Outlet.Report result (D.told desk.old) (D.told desk.new) (check_text (lists_of rules.now)) }
+    ensures wrote { WroteTo Outlet.Report result (D.told desk.old) (D.told desk.new)
+        (check_text (lists_of rules.now)) }
     ensures stop { IfErr result (λ stop. stop ≡ Stop.WriteFault Outlet.Report) }
     ensures failed { OnErr result (WriteFailed Outlet.Report (D.told desk.old) (D.told desk.new)) }
     ensures only { OnlyWrites Outlet.Report (D.told desk.old) (D.told desk.new) }

@@ -5,6 +5,7 @@ ghost use Rattle.psd_base.specs.Port.{IsPort};
 ghost use Rattle.psd_base.specs.Desk.{OnlyWrites, WriteFailed};
 ghost use Rattle.psd_base.specs.History.{number_of};
 ghost use Rattle.port_transcript.specs.ConsoleLine.{order_text};
+ghost use Rattle.port_transcript.specs.PortLine.{line_of, line_text};
 ghost use Rattle.switch_core.specs.Gives.{gives_of};
 ghost use Rattle.port_model.specs.Lines.{line_with};
 ghost use Rattle.kvm_program.specs.Console.{orders_text};
@@ -15,13 +16,14 @@ ghost use Rattle.kvm_program.specs.Texts.{turn_text};
 ghost use Rattle.kvm_program.specs.Transcript.{text_at};
 
 use crate::tally::Tally;
-use port_transcript::{PORT_LINE_SIZE, Text, write_act_line, write_console_line, write_log_line};
+use port_transcript::{ActLine, Text, write_console_line, write_log_line};
 use psd_base::act::Answer;
 use psd_base::console::{NOTES_MAX, Note, Notes, Order};
 use psd_base::desk::Desk;
 use psd_base::event::{Event, Tick, What};
 use psd_base::outlet::Outlet;
 use psd_base::port::PortId;
+use psd_base::render::RENDERED_MAX;
 use psd_base::stop::Stop;
 use switch_core::Turn;
 
@@ -40,7 +42,7 @@ pub fn send<D: Desk>(desk: &mut D, to: &Outlet, bytes: &[u8]) -> Result<(), Stop
 }
 
 /// Writes what one event gave: its line to its port's transcript, if it has one, then the orders to the console, and then
-/// the notes to the log. The text is room for them.
+/// the notes to the log. The text keeps the digits of the tick, and is room for orders and notes.
 #[inline(always)]
 pub fn write_turn<D: Desk>(
     desk: &mut D,
@@ -49,13 +51,13 @@ pub fn write_turn<D: Desk>(
     text: &mut Text,
     tally: &mut Tally,
 ) -> Result<(), Stop>
-    requires bytes { (port : ℕ) → IsPort port → bytes_at tally.old port + PORT_LINE_SIZE < 2 ^ 64 }
+    requires bytes { (port : ℕ) → IsPort port → bytes_at tally.old port + RENDERED_MAX < 2 ^ 64 }
     requires left { tally.old.left + NOTES_MAX < 2 ^ 32 }
     requires refused { tally.old.refused + NOTES_MAX < 2 ^ 32 }
     ensures wrote { (to : Outlet) → WroteTo to result (D.told desk.old) (D.told desk.new)
         (turn_text to event.now.tick (gives_of (seen event.now) turn.now)) }
     ensures short { (port : ℕ)
-        → length (text_at port (line_with (seen event.now) turn.now.answer)) ≤ PORT_LINE_SIZE }
+        → length (text_at port (line_with (seen event.now) turn.now.answer)) ≤ RENDERED_MAX }
     ensures stop { IfErr result (IsTextFault (D.told desk.old) (D.told desk.new)) }
     ensures counted { OnOk result ((port : ℕ) → IsPort port → bytes_at tally.new port
         ≡ bytes_at tally.old port + length (text_at port (line_with (seen event.now) turn.now.answer))) }
@@ -82,11 +84,11 @@ fn write_line<D: Desk>(
     text: &mut Text,
     tally: &mut Tally,
 ) -> Result<(), Stop>
-    requires { (port : ℕ) → IsPort port → bytes_at tally.old port + PORT_LINE_SIZE < 2 ^ 64 }
+    requires { (port : ℕ) → IsPort port → bytes_at tally.old port + RENDERED_MAX < 2 ^ 64 }
     ensures wrote { (port : ℕ) → WroteTo (Outlet.Port port) result (D.told desk.old) (D.told desk.new)
         (text_at port (line_with (seen event.now) answer.now)) }
     ensures short { (port : ℕ)
-        → length (text_at port (line_with (seen event.now) answer.now)) ≤ PORT_LINE_SIZE }
+        → length (text_at port (line_with (seen event.now) answer.now)) ≤ RENDERED_MAX }
     ensures stop { IfErr result (IsTextFault (D.told desk.old) (D.told desk.new)) }
     ensures counted { OnOk result ((port : ℕ) → IsPort port → bytes_at tally.new port
         ≡ bytes_at tally.old port + length (text_at port (line_with (seen event.now) answer.now))) }
@@ -96,8 +98,13 @@ fn write_line<D: Desk>(
 {
     match &event.what {
         What::Port(port, side, act) => {
-            write_act_line(event.tick, *side, act, answer, text);
-            write_text(desk, *port, text, tally)
+            let line = ActLine {
+                tick: text.digits_of(event.tick),
+                side: *side,
+                act,
+                answer,
+            };
+            send_line(desk, *port, &line, tally)
         }
         What::Clock => Ok(()),
         What::Panel(_) => Ok(()),
@@ -109,41 +116,34 @@ fn write_line<D: Desk>(
     }
 }
 
-/// Writes to one port's transcript.
+/// Writes the line of an act to one port's transcript, and counts its bytes. It is rendered where the desk wants it.
 #[inline(always)]
-fn send_port<D: Desk>(desk: &mut D, port: PortId, bytes: &[u8]) -> Result<(), Stop>
-    ensures wrote { WroteTo (Outlet.Port port) result (D.told desk.old) (D.told desk.new) bytes.now }
-    ensures apart { (other : ℕ) → other ≢ port → (D.told desk.new).sent (Outlet.Port other)
-        ≡ (D.told desk.old).sent (Outlet.Port other) }
-    ensures stop { IfErr result (IsTextFault (D.told desk.old) (D.told desk.new)) }
-    ensures only { OnlyWritesPorts (D.told desk.old) (D.told desk.new) }
-{
-    send(desk, &Outlet::Port(port), bytes)
-}
-
-/// Writes a text to one port's transcript, and counts its bytes.
-#[inline(always)]
-fn write_text<D: Desk>(
+fn send_line<D: Desk>(
     desk: &mut D,
     port: PortId,
-    text: &Text,
+    line: &ActLine,
     tally: &mut Tally,
 ) -> Result<(), Stop>
-    requires { (port : ℕ) → IsPort port → bytes_at tally.old port + length text.now.items < 2 ^ 64 }
+    requires { (port : ℕ) → IsPort port → bytes_at tally.old port + RENDERED_MAX < 2 ^ 64 }
     ensures wrote { (other : ℕ)
         → WroteTo (Outlet.Port other) result (D.told desk.old) (D.told desk.new)
-        (if port == other then text.now.items else []) }
+        (if port == other then line_text (line_of line.now) else []) }
+    ensures short { length (line_text (line_of line.now)) ≤ RENDERED_MAX }
     ensures stop { IfErr result (IsTextFault (D.told desk.old) (D.told desk.new)) }
     ensures counted { OnOk result ((other : ℕ) → IsPort other
         → bytes_at tally.new other
-        ≡ bytes_at tally.old other + length (if port == other then text.now.items else [])) }
+        ≡ bytes_at tally.old other + length (if port == other then line_text (line_of line.now) else [])) }
     ensures left { tally.new.left ≡ tally.old.left }
     ensures refused { tally.new.refused ≡ tally.old.refused }
     ensures only { OnlyWritesPorts (D.told desk.old) (D.told desk.new) }
 {
-    send_port(desk, port, text.as_slice())?;
-    tally.add(port, text.len());
-    Ok(())
+    match desk.write_rendered(Outlet::Port(port), line) {
+        Ok(count) => {
+            tally.add(port, count);
+            Ok(())
+        }
+        Err(_) => Err(Stop::WriteFault(Outlet::Port(port))),
+    }
 }
 
 /// Writes the orders of a turn to the console, and then its notes to the log. It is a call of its own, since few turns have

@@ -15,7 +15,7 @@ ghost use Rattle.kvm_program.specs.Transcript.{text_at};
 use crate::outlets::write_turn;
 use crate::tally::Tally;
 use capture_reader::Reader;
-use port_transcript::{PORT_LINE_SIZE, Text};
+use port_transcript::Text;
 use psd_base::desk::Desk;
 use psd_base::event::{EVENTS_MAX, Event};
 use psd_base::outlet::{Input, Outlet};

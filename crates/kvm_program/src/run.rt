@@ -42,7 +42,8 @@ fn serve_events<D: Desk>(desk: &mut D, reader: &mut Reader, server: &mut Server)
         → IsFresh rules server.old.switch server.old.tally → IsBegun start reader.old (D.told desk.old)
         → rest_told reader.old (D.told desk.old) ≡ Some schedule
         → Finished rules schedule start (D.told desk.new) server.new.switch server.new.tally) }
-    ensures written { IfErr result (λ stop. (rules : RuleSet) (schedule : Schedule) (start : Told) (to : Outlet)
+    ensures written { IfErr result
+        (λ stop. (rules : RuleSet) (schedule : Schedule) (start : Told) (to : Outlet)
         → IsFresh rules server.old.switch server.old.tally → IsBegun start reader.old (D.told desk.old)
         → rest_told reader.old (D.told desk.old) ≡ Some schedule
         → WroteAtStop stop (text_of rules to) schedule.events to start (D.told desk.new)) }
@@ -51,7 +52,8 @@ fn serve_events<D: Desk>(desk: &mut D, reader: &mut Reader, server: &mut Server)
         → PortsAboveStay reader.old.ports start (D.told desk.new) }
     ensures stop { IfErr result (λ stop. (rules : RuleSet) (start : Told)
         → IsFresh rules server.old.switch server.old.tally → IsBegun start reader.old (D.told desk.old)
-        → RunStops stop (λ _. ⊥) ⊥ (rest_told reader.old (D.told desk.old)) (D.told desk.old) (D.told desk.new)) }
+        → RunStops stop (λ _. ⊥) ⊥ (rest_told reader.old (D.told desk.old)) (D.told desk.old)
+        (D.told desk.new)) }
     ensures only { OnlyServes (D.told desk.old) (D.told desk.new) }
 {
     open_outlets(desk, reader.ports())?;
@@ -62,7 +64,8 @@ fn serve_events<D: Desk>(desk: &mut D, reader: &mut Reader, server: &mut Server)
 /// Writes the report of a run that came to its end.
 fn write_report<D: Desk>(desk: &mut D, summary: &Summary) -> Result<(), Stop>
     requires { summary.now.ports ≤ MAX_PORTS }
-    ensures wrote { WroteTo Outlet.Report result (D.told desk.old) (D.told desk.new) (report_text summary.now) }
+    ensures wrote { WroteTo Outlet.Report result (D.told desk.old) (D.told desk.new)
+        (report_text summary.now) }
     ensures stop { IfErr result (λ stop. stop ≡ Stop.WriteFault Outlet.Report) }
     ensures failed { OnErr result (WriteFailed Outlet.Report (D.told desk.old) (D.told desk.new)) }
     ensures only { OnlyWrites Outlet.Report (D.told desk.old) (D.told desk.new) }
@@ -81,7 +84,8 @@ fn run<D: Desk>(desk: &mut D, reader: &mut Reader, server: &mut Server) -> Resul
         start (D.told desk.new) }
     ensures stop { IfErr result (λ stop. (rules : RuleSet) (start : Told)
         → IsFresh rules server.old.switch server.old.tally → IsBegun start reader.old (D.told desk.old)
-        → RunStops stop (λ _. ⊥) ⊥ (rest_told reader.old (D.told desk.old)) (D.told desk.old) (D.told desk.new)) }
+        → RunStops stop (λ _. ⊥) ⊥ (rest_told reader.old (D.told desk.old)) (D.told desk.old)
+        (D.told desk.new)) }
     ensures only { OnlyRuns (D.told desk.old) (D.told desk.new) }
 {
     let ports = reader.ports();

@@ -12,6 +12,7 @@ use Rattle.psd_base.specs.declared.act.Side.TheVariants.{Km, Ua}
 use Rattle.psd_base.specs.declared.line.Line.{Line}
 use Rattle.psd_base.specs.declared.packet.TheConstants.{PACKET_SIZE}
 use Rattle.psd_base.specs.declared.setup.Setup.{Setup}
+use Rattle.port_transcript.specs.declared.port.ActLine.{ActLine}
 use Rattle.port_transcript.specs.Text.{bytes_text, flag_text}
 
 unfoldable pub side_text : Side → List ℕ
@@ -30,6 +31,10 @@ answer_text answer.Nak = codes "NAK"
 answer_text answer.Stall = codes "STALL"
 answer_text answer.Silent = codes "SILENT"
 answer_text (answer.Data toggle bytes) = codes "DATA " ++ flag_text toggle ++ codes " " ++ bytes_text bytes
+
+-- the line whose parts lie elsewhere
+abbrev pub line_of : ActLine → Line
+line_of line = record { tick = line.tick.now; side = line.side; act = line.act.now; answer = line.answer.now }
 
 -- `TICK SIDE ACT -> ANSWER` and a line feed
 unfoldable pub line_text : Line → List ℕ

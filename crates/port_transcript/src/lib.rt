@@ -21,11 +21,13 @@ mod port;
 mod read;
 mod stop;
 mod text;
+mod tick;
 mod words;
 
 pub use console::{CONSOLE_LINE_SIZE, console_line, write_console_line};
 pub use log::{LOG_LINE_SIZE, log_line, write_log_line};
-pub use port::{PORT_LINE_SIZE, port_line, write_act_line, write_port_line};
+pub use port::{ActLine, PORT_LINE_SIZE, port_line, write_port_line};
 pub use read::read_port_line;
 pub use stop::{STOP_LINE_SIZE, stop_line, write_stop_line};
 pub use text::{TEXT_SIZE, Text, append, append_number};
+pub use tick::TickDigits;

@@ -8,16 +8,14 @@
 ghost use Rattle.std.specs.Prelude.{◌≡◌, ◌+◌, ◌≤◌, length, take, ◌++◌, codes};
 ghost use Rattle.std.specs.Fmt.{decimal};
 ghost use Rattle.arrayvec.specs.ArrayVec.{array_vec_len};
-ghost use Rattle.port_transcript.specs.PortLine.{act_text, answer_text, line_text, side_text};
+ghost use Rattle.port_transcript.specs.PortLine.{act_text, answer_text, line_of, line_text, side_text};
 
 use crate::text::{Text, put_byte, put_bytes, put_digits, put_word};
-use psd_base::{Act, Answer, Line, Side, Tick};
+use crate::tick::TickDigits;
+use psd_base::{Act, Answer, Line, Render, Side};
 
 /// The most bytes that a line of a port has, its line feed included.
 pub const PORT_LINE_SIZE: usize = 296;
-
-/// The most bytes of a line behind its tick.
-const BEHIND_TICK_SIZE: usize = 286;
 
 /// The bytes of a side's name and of a blank on each side.
 const SIDE_SIZE: usize = 4;
@@ -31,14 +29,44 @@ const ENDPOINT_SIZE: usize = 7;
 /// The most bytes from the arrow to the line feed, where the answer is `PACKET_SIZE` bytes of data.
 const REPLY_SIZE: usize = 140;
 
-/// Writes the line of an act and its answer in the place of what the text held. The tick is in milliseconds.
-#[inline(always)]
-pub fn write_act_line(tick: Tick, side: Side, act: &Act, answer: &Answer, text: &mut Text)
-    ensures items { text.new.items
-        ≡ line_text (record { tick = tick; side = side; act = act.now; answer = answer.now }) }
-    ensures len { array_vec_len text.new ≤ PORT_LINE_SIZE }
-{
-    text.set_to_line(tick, side, act, answer);
+/// The line of an act that was answered, where its parts lie elsewhere. It is rendered where it is wanted.
+#[derive(Clone, Copy)]
+pub struct ActLine<'a> {
+    /// The tick, in milliseconds.
+    pub tick: &'a TickDigits,
+    pub side: Side,
+    pub act: &'a Act,
+    pub answer: &'a Answer,
+}
+
+impl ActLine<'_> {
+    ghost use Rattle.port_transcript.specs.PortLine.{line_of};
+
+    /// Writes the line over the bytes from a place on, and answers the place behind it. There is room for the longest.
+    #[inline(always)]
+    #[tactic(auto, unfolding(crate::specs::PortLine::line_text))]
+    pub(crate) fn put(&self, into: &mut [u8], at: usize) -> usize
+        requires { at + PORT_LINE_SIZE ≤ length into.old }
+        ensures items { take result into.new ≡ take at into.old ++ line_text (line_of self.now) }
+        ensures end { result ≤ at + PORT_LINE_SIZE }
+        ensures len { length into.new ≡ length into.old }
+    {
+        let at = self.tick.put(into, at);
+        let at = put_side(into, at, self.side);
+        let at = put_act(into, at, self.act);
+        put_reply(into, at, self.answer)
+    }
+}
+
+impl Render for ActLine<'_> {
+    ghost use Rattle.port_transcript.specs.PortLine.{line_of, line_text};
+
+    ghost rendered = { λ line. line_text (line_of line) };
+
+    #[inline(always)]
+    fn render(&self, into: &mut [u8], at: usize) -> usize {
+        self.put(into, at)
+    }
 }
 
 /// Writes the line in the place of what the text held.
@@ -46,7 +74,13 @@ pub fn write_port_line(line: &Line, text: &mut Text)
     ensures items { text.new.items ≡ line_text line.now }
     ensures len { array_vec_len text.new ≤ PORT_LINE_SIZE }
 {
-    write_act_line(line.tick, line.side, &line.act, &line.answer, text);
+    let tick = TickDigits::of(line.tick);
+    text.set_to_line(&ActLine {
+        tick: &tick,
+        side: line.side,
+        act: &line.act,
+        answer: &line.answer,
+    });
 }
 
 /// The line in a fresh text.
@@ -57,26 +91,6 @@ pub fn port_line(line: &Line) -> Text
     let mut text = Text::new();
     write_port_line(line, &mut text);
     text
-}
-
-/// Writes a line from behind its tick to its end, and answers the place behind it.
-#[inline(always)]
-pub(crate) fn put_behind_tick(
-    into: &mut [u8],
-    at: usize,
-    side: Side,
-    act: &Act,
-    answer: &Answer,
-) -> usize
-    requires { at + BEHIND_TICK_SIZE ≤ length into.old }
-    ensures items { take result into.new ≡ take at into.old ++ codes " " ++ side_text side ++ codes " "
-        ++ act_text act.now ++ codes " -> " ++ answer_text answer.now ++ codes "\n" }
-    ensures end { result ≤ at + BEHIND_TICK_SIZE }
-    ensures len { length into.new ≡ length into.old }
-{
-    let at = put_side(into, at, side);
-    let at = put_act(into, at, act);
-    put_reply(into, at, answer)
 }
 
 /// Writes the side's name, with a blank on each side, and answers the place behind it.
@@ -138,7 +152,8 @@ fn put_act(into: &mut [u8], at: usize, act: &Act) -> usize
 #[inline(always)]
 fn put_endpoint(into: &mut [u8], at: usize, address: u8, endpoint: u8) -> usize
     requires { at + ENDPOINT_SIZE ≤ length into.old }
-    ensures items { take result into.new ≡ take at into.old ++ decimal address ++ codes " " ++ decimal endpoint }
+    ensures items { take result into.new
+        ≡ take at into.old ++ decimal address ++ codes " " ++ decimal endpoint }
     ensures end { result ≤ at + ENDPOINT_SIZE }
     ensures len { length into.new ≡ length into.old }
 {
@@ -152,7 +167,8 @@ fn put_endpoint(into: &mut [u8], at: usize, address: u8, endpoint: u8) -> usize
 #[tactic(auto, unfolding(crate::specs::PortLine::answer_text))]
 fn put_reply(into: &mut [u8], at: usize, answer: &Answer) -> usize
     requires { at + REPLY_SIZE ≤ length into.old }
-    ensures items { take result into.new ≡ take at into.old ++ codes " -> " ++ answer_text answer.now ++ codes "\n" }
+    ensures items { take result into.new
+        ≡ take at into.old ++ codes " -> " ++ answer_text answer.now ++ codes "\n" }
     ensures end { result ≤ at + REPLY_SIZE }
     ensures len { length into.new ≡ length into.old }
 {

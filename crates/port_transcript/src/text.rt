@@ -3,20 +3,18 @@ ghost use Rattle.std.specs.Prelude.{◌≡◌, ◌+◌, ◌*◌, ◌≤◌, [], 
 ghost use Rattle.std.specs.Fmt.{decimal};
 ghost use Rattle.arrayvec.specs.ArrayVec.{array_vec_len};
 ghost use Rattle.hex.specs.Hex.{encode_lower};
-ghost use Rattle.port_transcript.specs.PortLine.{line_text};
+ghost use Rattle.port_transcript.specs.PortLine.{line_of, line_text};
 ghost use Rattle.port_transcript.specs.Text.{bytes_text};
 
-use crate::port::{PORT_LINE_SIZE, put_behind_tick};
+use crate::port::{ActLine, PORT_LINE_SIZE};
+use crate::tick::{TICK_SIZE, TickDigits};
 use itoa::{Buffer, Integer};
 use psd_base::place::write_at;
-use psd_base::{Act, Answer, Bytes, Side, Tick};
+use psd_base::{Bytes, Tick};
 use std::marker::Model;
 
 /// How many bytes a text can hold.
 pub const TEXT_SIZE: usize = 4096;
-
-/// The most bytes of a tick in decimal.
-pub(crate) const TICK_SIZE: usize = 10;
 
 /// The two hexadecimal digits of each byte.
 static PAIRS: [u8; 512] = *b"\
@@ -72,16 +70,21 @@ impl Text {
         self.len = 0;
     }
 
-    /// Makes it the line of an act and its answer, in the place of what it held. Its end is stored once.
+    /// The digits of this tick. They are kept for the next line.
     #[inline(always)]
-    #[tactic(auto, unfolding(crate::specs::PortLine::line_text))]
-    pub(crate) fn set_to_line(&mut self, tick: Tick, side: Side, act: &Act, answer: &Answer)
-        ensures items { self.new.items
-            ≡ line_text (record { tick = tick; side = side; act = act.now; answer = answer.now }) }
+    pub fn digits_of(&mut self, tick: Tick) -> &TickDigits
+        ensures { result.now ≡ tick }
+    {
+        self.tick.turn_to(tick);
+        &self.tick
+    }
+
+    /// Makes it this line, in the place of what it held.
+    pub(crate) fn set_to_line(&mut self, line: &ActLine)
+        ensures items { self.new.items ≡ line_text (line_of line.now) }
         ensures len { array_vec_len self.new ≤ PORT_LINE_SIZE }
     {
-        let at = put_tick(&mut self.bytes, 0, &mut self.tick, tick);
-        self.len = put_behind_tick(&mut self.bytes, at, side, act, answer);
+        self.len = line.put(&mut self.bytes, 0);
     }
 
     /// How many bytes it has.
@@ -98,65 +101,6 @@ impl Text {
         ensures fits { length result.now ≤ TEXT_SIZE }
     {
         &self.bytes[..self.len]
-    }
-}
-
-/// The digits of the tick that was appended last, and any bytes behind them.
-#[derive(Drop)]
-struct TickDigits {
-    tick: Tick,
-    digits: [u8; TICK_SIZE],
-    len: usize,
-}
-
-impl Model for TickDigits {
-    ghost use Rattle.std.specs.Prelude.{◌≡◌, ℕ, ◌≤◌, length, take};
-    ghost use Rattle.std.specs.Fmt.{decimal};
-    ghost use Rattle.port_transcript.specs.declared.text.TheConstants.{TICK_SIZE};
-
-    ghost Value = { ℕ };
-
-    ghost view = { λ kept. kept.tick };
-
-    ghost invariant = { λ kept. record {
-      within : kept.len ≤ TICK_SIZE;
-      size : length kept.digits ≡ TICK_SIZE;
-      digits : take kept.len kept.digits ≡ decimal kept.tick;
-    } };
-}
-
-impl TickDigits {
-    /// The digits of this tick.
-    fn of(tick: Tick) -> TickDigits
-        ensures { result ≡ tick }
-    {
-        let mut buffer = Buffer::new();
-        let text = buffer.format(tick).as_bytes();
-        let mut digits = [0; TICK_SIZE];
-        write_at(&mut digits, 0, text);
-        TickDigits {
-            tick,
-            digits,
-            len: text.len(),
-        }
-    }
-
-    /// Turns to this tick. Ticks repeat, so mostly the digits are there.
-    #[inline(always)]
-    fn turn_to(&mut self, tick: Tick)
-        ensures { self.new ≡ tick }
-    {
-        if self.tick != tick {
-            self.renew(tick);
-        }
-    }
-
-    /// Takes the digits of this tick. It is a call of its own, since its room would be cleared at each line.
-    #[inline(never)]
-    fn renew(&mut self, tick: Tick)
-        ensures { self.new ≡ tick }
-    {
-        *self = TickDigits::of(tick);
     }
 }
 
@@ -228,27 +172,14 @@ pub(crate) fn put_byte(into: &mut [u8], at: usize, number: u8) -> usize
     }
 }
 
-/// Writes a tick in decimal, and answers the place behind it. There is room for the longest. All bytes of the kept
-/// digits are written, since a copy of a fixed size costs least; the place is behind the digits.
-#[inline(always)]
-fn put_tick(into: &mut [u8], at: usize, kept: &mut TickDigits, tick: Tick) -> usize
-    requires { at + TICK_SIZE ≤ length into.old }
-    ensures items { take result into.new ≡ take at into.old ++ decimal tick }
-    ensures end { result ≤ at + TICK_SIZE }
-    ensures len { length into.new ≡ length into.old }
-{
-    kept.turn_to(tick);
-    write_at(into, at, &kept.digits);
-    at + kept.len
-}
-
 /// Appends a tick in decimal. There is room for the longest.
 pub(crate) fn append_tick(text: &mut Text, tick: Tick)
     requires { array_vec_len text.old + TICK_SIZE ≤ TEXT_SIZE }
     ensures items { text.new.items ≡ text.old.items ++ decimal tick }
     ensures len { array_vec_len text.new ≤ array_vec_len text.old + TICK_SIZE }
 {
-    text.len = put_tick(&mut text.bytes, text.len, &mut text.tick, tick);
+    text.tick.turn_to(tick);
+    text.len = text.tick.put(&mut text.bytes, text.len);
 }
 
 /// Writes the hexadecimal digits of bytes, two for each, and answers the place behind them. There is room for them.

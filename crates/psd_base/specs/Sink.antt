@@ -1,5 +1,6 @@
 -- Where the bytes of an outlet go in the current folder.
-use Rattle.std.specs.Prelude.{ℕ, ◌≡◌, ◌<◌, ◌⊎◌, List, [], ◌++◌, length}
+use Rattle.std.specs.Prelude.{ℕ, ◌≡◌, ◌+◌, ◌<◌, ◌≤◌, ◌⊎◌, List, [], ◌++◌, length}
+use Rattle.psd_base.specs.declared.render.TheConstants.{RENDERED_MAX}
 use Rattle.psd_base.specs.declared.sink.Sink.{Sink}
 use Rattle.psd_base.specs.declared.sink.Sink.TheVariants.{Unused, Open, Failed}
 
@@ -19,6 +20,12 @@ abbrev pub IsOpen : {F : Type 0} → Sink F → Type 0
 IsOpen (Unused waiting) = ⊥
 IsOpen (Open buffered) = Unit {0}
 IsOpen Failed = ⊥
+
+-- it is open, and has room for what is rendered at once
+abbrev pub CanRender : {F : Type 0} → Sink F → Type 0
+CanRender (Unused waiting) = ⊥
+CanRender (Open buffered) = length buffered.waiting.bytes + RENDERED_MAX ≤ buffered.waiting.room
+CanRender Failed = ⊥
 
 -- nothing was written, and nothing waits
 abbrev pub IsFresh : {F : Type 0} → Sink F → Type 0

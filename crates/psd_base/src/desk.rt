@@ -3,6 +3,7 @@ ghost use Rattle.std.specs.Prelude.{◌≡◌, ℕ, ◌<◌, ◌≤◌, [], ◌+
 ghost use Rattle.psd_base.specs.Desk.{IsAppendedPart, OnlyReads, OnlyWrites, ReadFailed, Told, WriteFailed};
 
 use crate::outlet::{Input, Outlet};
+use crate::render::{RENDERED_MAX, Render};
 use thiserror::Error;
 
 /// A read or a write that failed.
@@ -43,7 +44,8 @@ pub trait Desk {
     fn write(&mut self, to: Outlet, bytes: &[u8]) -> Result<(), DeskFailed>
         ensures appended { OnOk result ((told self.new).sent to
             ≡ option_map (λ before. before ++ bytes.now) ((told self.old).sent to)) }
-        ensures part { OnErr result (IsAppendedPart ((told self.old).sent to) ((told self.new).sent to) bytes.now) }
+        ensures part { OnErr result (IsAppendedPart ((told self.old).sent to) ((told self.new).sent to)
+            bytes.now) }
         ensures failed { OnErr result (WriteFailed to (told self.old) (told self.new)) }
 
         // A write that succeeded counts no failure.
@@ -51,5 +53,19 @@ pub trait Desk {
             ≡ (told self.old).write_faults outlet) }
 
         // Nothing else moves.
+        ensures only { OnlyWrites to (told self.old) (told self.new) };
+
+    /// Appends what `item` renders to an outlet, as `write` does with these bytes, and answers how many they are. A
+    /// desk may render them where they wait.
+    fn write_rendered<T: Render>(&mut self, to: Outlet, item: &T) -> Result<usize, DeskFailed>
+        ensures count { IfOk result (λ count. count ≡ length (T.rendered item.now)) }
+        ensures most { length (T.rendered item.now) ≤ RENDERED_MAX }
+        ensures appended { OnOk result ((told self.new).sent to
+            ≡ option_map (λ before. before ++ T.rendered item.now) ((told self.old).sent to)) }
+        ensures part { OnErr result (IsAppendedPart ((told self.old).sent to) ((told self.new).sent to)
+            (T.rendered item.now)) }
+        ensures failed { OnErr result (WriteFailed to (told self.old) (told self.new)) }
+        ensures uncounted { OnOk result ((outlet : Outlet) → (told self.new).write_faults outlet
+            ≡ (told self.old).write_faults outlet) }
         ensures only { OnlyWrites to (told self.old) (told self.new) };
 }

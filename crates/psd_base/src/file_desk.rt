@@ -1,7 +1,7 @@
 //! The desk of the current folder, with standard output and standard error.
 //!
 //! No contract can say what a file gives or takes, so this desk tells nothing of bytes: here the proofs end.
-ghost use Rattle.std.specs.Prelude.{◌≡◌, IfErr, OnErr, OnOk};
+ghost use Rattle.std.specs.Prelude.{◌≡◌, ◌≤◌, length, IfErr, IfOk, OnErr, OnOk};
 ghost use Rattle.psd_base.specs.Desk.{OnlyWrites, WriteFailed, silent};
 ghost use Rattle.psd_base.specs.FaultCounts.{no_faults};
 
@@ -10,6 +10,7 @@ use crate::fault_counts::FaultCounts;
 use crate::outlet::{Input, Outlet};
 use crate::places::{INPUTS, OUTLETS, input_place, outlet_place};
 use crate::port::{MAX_PORTS, PortId};
+use crate::render::{RENDERED_MAX, Render};
 use crate::sink::Sink;
 use crate::source::Source;
 use crate::waiting::Waiting;
@@ -91,7 +92,8 @@ impl<R: Files + Print + Eprint + AllocGlobal + Drop> FileDesk<R> {
         ensures ok { OnOk result (self.new.faults ≡ self.old.faults) }
         ensures failed { OnErr result (WriteFailed to (⟦<FileDesk<R> as Desk>⟧.told self.old)
             (⟦<FileDesk<R> as Desk>⟧.told self.new)) }
-        ensures only { OnlyWrites to (⟦<FileDesk<R> as Desk>⟧.told self.old) (⟦<FileDesk<R> as Desk>⟧.told self.new) }
+        ensures only { OnlyWrites to (⟦<FileDesk<R> as Desk>⟧.told self.old)
+            (⟦<FileDesk<R> as Desk>⟧.told self.new) }
     {
         match self.sinks[outlet_place(&to)].write(&self.rt, &to, bytes) {
             Ok(()) => Ok(()),
@@ -100,6 +102,28 @@ impl<R: Files + Print + Eprint + AllocGlobal + Drop> FileDesk<R> {
                 Err(DeskFailed)
             }
         }
+    }
+
+    /// Writes what `item` renders to an outlet that isn't open, or for which too many bytes wait.
+    #[cold]
+    #[inline(never)]
+    fn write_rendered_further<T: Render>(
+        &mut self,
+        to: Outlet,
+        item: &T,
+    ) -> Result<usize, DeskFailed>
+        ensures count { IfOk result (λ count. count ≡ length (T.rendered item.now)) }
+        ensures most { length (T.rendered item.now) ≤ RENDERED_MAX }
+        ensures ok { OnOk result (self.new.faults ≡ self.old.faults) }
+        ensures failed { OnErr result (WriteFailed to (⟦<FileDesk<R> as Desk>⟧.told self.old)
+            (⟦<FileDesk<R> as Desk>⟧.told self.new)) }
+        ensures only { OnlyWrites to (⟦<FileDesk<R> as Desk>⟧.told self.old)
+            (⟦<FileDesk<R> as Desk>⟧.told self.new) }
+    {
+        let mut room = [0; RENDERED_MAX];
+        let count = item.render(&mut room, 0);
+        self.write_further(to, &room[..count])?;
+        Ok(count)
     }
 
     fn write_out(&mut self, outlet: Outlet) -> Result<(), Outlet>
@@ -132,5 +156,17 @@ impl<R: Files + Print + Eprint + AllocGlobal + Drop> Desk for FileDesk<R> {
             return Ok(());
         }
         self.write_further(to, bytes)
+    }
+
+    #[inline(always)]
+    fn write_rendered<T: Render>(&mut self, to: Outlet, item: &T) -> Result<usize, DeskFailed> {
+        let place = outlet_place(&to);
+        if self.sinks[place].can_render() {
+            return Ok(self.sinks[place].render(item));
+        }
+        // The call takes a copy: an item whose place is told to a call can't stay in registers.
+        let apart = *item;
+        let count = self.write_rendered_further(to, &apart)?;
+        Ok(count)
     }
 }

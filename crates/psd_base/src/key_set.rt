@@ -30,7 +30,8 @@ impl Model for KeySet {
 
     ghost inverse = { λ flags. record { words = words_of flags } };
 
-    ghost inverse_ok = { λ keys form. ap (λ (words : List ℕ). record { words = words }) (words_of-flags_of keys.words form.four form.fit) };
+    ghost inverse_ok = { λ keys form. ap (λ (words : List ℕ). record { words = words })
+        (words_of-flags_of keys.words form.four form.fit) };
 }
 
 impl PartialEq for KeySet {

@@ -9,6 +9,7 @@ use crate::desk::{Desk, DeskFailed};
 use crate::fault_counts::FaultCounts;
 use crate::outlet::{Input, Outlet};
 use crate::places::{OUTLETS, input_place, outlet_place};
+use crate::render::{RENDERED_MAX, Render};
 use crate::store::Store;
 use crate::tape::Tape;
 use std::alloc::{AllocError, Global};
@@ -41,7 +42,8 @@ impl Model for MemoryDesk {
       piece = desk.piece;
     } };
 
-    ghost invariant = { λ desk. (vec_len desk.inputs ≡ INPUTS) × (vec_len desk.outlets ≡ OUTLETS) × (0 < desk.piece) };
+    ghost invariant = { λ desk. (vec_len desk.inputs ≡ INPUTS) × (vec_len desk.outlets ≡ OUTLETS)
+        × (0 < desk.piece) };
 }
 
 impl MemoryDesk {
@@ -185,5 +187,30 @@ impl Desk for MemoryDesk {
                 Err(DeskFailed)
             }
         }
+    }
+
+    /// Is one write call, of the bytes that `item` renders.
+    fn write_rendered<T: Render>(&mut self, to: Outlet, item: &T) -> Result<usize, DeskFailed>
+        ensures fails { IsErr result ↔ WriteFails self.old to (T.rendered item.now) }
+        ensures after { OnOk result (self.new ≡ after_write self.old to (T.rendered item.now)) }
+        ensures after_failure { OnErr result (self.new ≡ after_failed_write self.old to
+            (take (bytes_kept self.old to (T.rendered item.now)) (T.rendered item.now))) }
+
+        // The clauses of every desk.
+        ensures count { IfOk result (λ count. count ≡ length (T.rendered item.now)) }
+        ensures most { length (T.rendered item.now) ≤ RENDERED_MAX }
+        ensures appended { OnOk result (bytes_sent self.new to
+            ≡ bytes_sent self.old to ++ T.rendered item.now) }
+        ensures part { OnErr result (bytes_sent self.new to ≡ bytes_sent self.old to
+            ++ take (bytes_kept self.old to (T.rendered item.now)) (T.rendered item.now)) }
+        ensures failed { OnErr result (WriteFailed to (told_by self.old) (told_by self.new)) }
+        ensures uncounted { OnOk result ((outlet : Outlet) → (told_by self.new).write_faults outlet
+            ≡ (told_by self.old).write_faults outlet) }
+        ensures only { OnlyWrites to (told_by self.old) (told_by self.new) }
+    {
+        let mut room = [0; RENDERED_MAX];
+        let count = item.render(&mut room, 0);
+        self.write(to, &room[..count])?;
+        Ok(count)
     }
 }

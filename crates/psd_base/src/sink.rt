@@ -1,8 +1,9 @@
 //! Where the bytes of an outlet go in the current folder, and the buffer in which they wait.
-ghost use Rattle.std.specs.Prelude.{◌≡◌, ◌+◌, ◌≤◌, [], ◌++◌, length, IsTrue, false, Ok, IsErr, OnOk, OnErr};
+ghost use Rattle.std.specs.Prelude.{◌≡◌, ◌+◌, ◌≤◌, [], ◌++◌, length, ◌↔◌, IsTrue, false, Ok, IsErr, OnOk, OnErr};
 
 use crate::outlet::Outlet;
 use crate::port::{MAX_PORTS, PortId};
+use crate::render::{RENDERED_MAX, Render};
 use crate::waiting::Waiting;
 use std::alloc::{AllocError, Global};
 use std::io::{self, ErrorKind, Write};
@@ -79,7 +80,7 @@ pub enum Sink<F> {
 
 impl<F: Write + Drop> Sink<F> {
     ghost use Rattle.psd_base.specs.declared.sink.TheConstants.{BUFFER_SIZE};
-    ghost use Rattle.psd_base.specs.Sink.{room_in, waiting_in, IsFresh, IsOpen, Takes};
+    ghost use Rattle.psd_base.specs.Sink.{room_in, waiting_in, CanRender, IsFresh, IsOpen, Takes};
 
     /// Takes the buffer, where nothing was written yet.
     pub fn reserve(&mut self, alloc: Global) -> Result<(), AllocError>
@@ -100,7 +101,8 @@ impl<F: Write + Drop> Sink<F> {
         bytes: &[u8],
     ) -> io::Result<()>
         ensures opened { OnOk result (IsOpen self.new) }
-        ensures waiting { OnOk result (Takes (room_in self.old) (waiting_in self.old) (waiting_in self.new) bytes.now) }
+        ensures waiting { OnOk result (Takes (room_in self.old) (waiting_in self.old) (waiting_in self.new)
+            bytes.now) }
         ensures room { OnOk result (room_in self.old ≤ room_in self.new) }
         ensures failed { OnErr result (self.new ≡ Sink.Failed) }
         ensures stays_failed { self.old ≡ Sink.Failed → IsErr result }
@@ -114,8 +116,10 @@ impl<F: Write + Drop> Sink<F> {
     /// Lets these bytes wait, and answers whether it could: the outlet is open, and there is room for them.
     #[inline(always)]
     pub fn hold(&mut self, bytes: &[u8]) -> bool
-        ensures fits { IsOpen self.old → length (waiting_in self.old) + length bytes.now ≤ room_in self.old → IsTrue result }
-        ensures held { IsTrue result → IsOpen self.new × (waiting_in self.new ≡ waiting_in self.old ++ bytes.now) }
+        ensures fits { IsOpen self.old → length (waiting_in self.old) + length bytes.now ≤ room_in self.old
+            → IsTrue result }
+        ensures held { IsTrue result → IsOpen self.new
+            × (waiting_in self.new ≡ waiting_in self.old ++ bytes.now) }
         ensures room { room_in self.new ≡ room_in self.old }
         ensures refused { result ≡ false → self.new ≡ self.old }
         ensures failed { self.old ≡ Sink.Failed → result ≡ false }
@@ -124,6 +128,35 @@ impl<F: Write + Drop> Sink<F> {
             Sink::Unused(_) => false,
             Sink::Open(buffered) => buffered.waiting.hold(bytes),
             Sink::Failed => false,
+        }
+    }
+
+    /// Whether it is open, with room for what is rendered at once.
+    #[inline(always)]
+    pub fn can_render(&self) -> bool
+        ensures { IsTrue result ↔ CanRender self.now }
+    {
+        match self {
+            Sink::Unused(_) => false,
+            Sink::Open(buffered) => buffered.waiting.can_render(),
+            Sink::Failed => false,
+        }
+    }
+
+    /// Lets what `item` renders wait, and answers how many bytes that are. It is open, and there is room for the most.
+    #[inline(always)]
+    pub fn render<T: Render>(&mut self, item: &T) -> usize
+        requires { CanRender self.old }
+        ensures open { IsOpen self.new }
+        ensures waiting { waiting_in self.new ≡ waiting_in self.old ++ T.rendered item.now }
+        ensures count { result ≡ length (T.rendered item.now) }
+        ensures most { result ≤ RENDERED_MAX }
+        ensures room { room_in self.new ≡ room_in self.old }
+    {
+        match self {
+            Sink::Unused(_) => unreachable!(),
+            Sink::Open(buffered) => buffered.waiting.render(item),
+            Sink::Failed => unreachable!(),
         }
     }
 

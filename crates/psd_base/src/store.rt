@@ -20,7 +20,8 @@ impl Model for Store {
 
     ghost view = { λ store. record { bytes = store.bytes.items; room = store.room } };
 
-    ghost invariant = { λ store. (vec_len store.bytes ≤ store.room) × (store.room ≤ vec_capacity store.bytes) };
+    ghost invariant = { λ store. (vec_len store.bytes ≤ store.room)
+        × (store.room ≤ vec_capacity store.bytes) };
 }
 
 impl Store {

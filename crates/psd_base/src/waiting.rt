@@ -1,7 +1,8 @@
 //! The bytes of an outlet that wait to be written out.
-ghost use Rattle.std.specs.Prelude.{◌≡◌, ◌+◌, ◌≤◌, [], ◌++◌, length, if◌then◌else◌, IsTrue, IfOk};
+ghost use Rattle.std.specs.Prelude.{◌≡◌, ◌+◌, ◌≤◌, [], ◌++◌, length, if◌then◌else◌, ◌↔◌, IsTrue, IfOk};
 
 use crate::place::write_at;
+use crate::render::{RENDERED_MAX, Render};
 use std::alloc::{AllocError, Global};
 use std::marker::Model;
 
@@ -18,7 +19,10 @@ impl Model for Waiting {
 
     ghost Value = { Stored };
 
-    ghost view = { λ waiting. record { bytes = take waiting.held waiting.bytes.items; room = length waiting.bytes.items } };
+    ghost view = { λ waiting. record {
+      bytes = take waiting.held waiting.bytes.items;
+      room = length waiting.bytes.items;
+    } };
 
     ghost invariant = { λ waiting. waiting.held ≤ length waiting.bytes.items };
 }
@@ -64,6 +68,29 @@ impl Waiting {
         write_at(&mut self.bytes, self.held, bytes);
         self.held += bytes.len();
         true
+    }
+
+    /// Whether there is room for what is rendered at once.
+    #[inline(always)]
+    pub fn can_render(&self) -> bool
+        ensures { IsTrue result ↔ (length self.now.bytes + RENDERED_MAX ≤ self.now.room) }
+    {
+        RENDERED_MAX <= self.bytes.len() - self.held
+    }
+
+    /// Lets what `item` renders wait too, and answers how many bytes that are. There is room for the most.
+    #[inline(always)]
+    pub fn render<T: Render>(&mut self, item: &T) -> usize
+        requires { length self.old.bytes + RENDERED_MAX ≤ self.old.room }
+        ensures waiting { self.new.bytes ≡ self.old.bytes ++ T.rendered item.now }
+        ensures count { result ≡ length (T.rendered item.now) }
+        ensures most { result ≤ RENDERED_MAX }
+        ensures room { self.new.room ≡ self.old.room }
+    {
+        let end = item.render(&mut self.bytes, self.held);
+        let count = end - self.held;
+        self.held = end;
+        count
     }
 
     /// Drops every byte.

@@ -247,7 +247,8 @@ impl Front {
             (bridge_front rules (front_event tick (Reports plug interface bytes.now)) past bridge) }
         ensures shown { (rules : RuleSet) (tick : ℕ) (past : List FrontEvent) (bridge : BridgePast)
             → FrontStands rules self.old past bridge
-            → shown_concerns result ≡ shown_at rules (front_event tick (Reports plug interface bytes.now)) past }
+            → shown_concerns result
+            ≡ shown_at rules (front_event tick (Reports plug interface bytes.now)) past }
         ensures sample { IsShown result }
         ensures within { (count : ℕ) → FrontWithin count self.old → FrontWithin (count + 1) self.new }
     {
@@ -289,10 +290,12 @@ impl Front {
 
 /// Takes a clock event to the selection, while the switch is alive. Gives what it changes.
 fn look(health: Health, selector: &mut Selector, tick: Tick, all_up: bool) -> Move
-    ensures stands { (moments : List Moment) → SelectorStands selector.old moments → SelectorStands selector.new
+    ensures stands { (moments : List Moment) → SelectorStands selector.old moments
+        → SelectorStands selector.new
         (if is_alive health then Ticked tick all_up ∷ moments else moments) }
     ensures answer { (moments : List Moment) → SelectorStands selector.old moments → result
-        ≡ (if is_alive health then move_of (choice_after moments) (choice_after (Ticked tick all_up ∷ moments))
+        ≡ (if is_alive health
+        then move_of (choice_after moments) (choice_after (Ticked tick all_up ∷ moments))
         else Move.Stay) }
 {
     match health {

@@ -51,7 +51,8 @@ impl Peripherals {
     /// Whether no key and no button is down.
     #[tactic(auto, unfolding(port_model::specs::Peripherals::shows_none))]
     pub fn shows_nothing(&self) -> bool
-        ensures { (rules : RuleSet) (keyboard mouse : List Moment) → PeripheralsStand rules self.now keyboard mouse
+        ensures { (rules : RuleSet) (keyboard mouse : List Moment)
+            → PeripheralsStand rules self.now keyboard mouse
             → result ≡ shows_none rules keyboard mouse }
     {
         self.keys.keys().is_empty() && self.buttons.buttons() == 0
@@ -62,12 +63,15 @@ impl Peripherals {
     pub fn clock(&mut self, tick: Tick, orders: &mut Orders, notes: &mut Notes)
         requires no_orders { orders.old.items ≡ [] }
         requires no_notes { notes.old.items ≡ [] }
-        ensures stands { (rules : RuleSet) (keyboard mouse : List Moment) → PeripheralsStand rules self.old keyboard mouse
+        ensures stands { (rules : RuleSet) (keyboard mouse : List Moment)
+            → PeripheralsStand rules self.old keyboard mouse
             → PeripheralsStand rules self.new (Ticked tick ∷ keyboard) (Ticked tick ∷ mouse) }
-        ensures orders { (rules : RuleSet) (keyboard mouse : List Moment) → PeripheralsStand rules self.old keyboard mouse
+        ensures orders { (rules : RuleSet) (keyboard mouse : List Moment)
+            → PeripheralsStand rules self.old keyboard mouse
             → orders.new.items ≡ orders_at Keyboard rules (Ticked tick) keyboard
             ++ orders_at Mouse rules (Ticked tick) mouse }
-        ensures notes { (rules : RuleSet) (keyboard mouse : List Moment) → PeripheralsStand rules self.old keyboard mouse
+        ensures notes { (rules : RuleSet) (keyboard mouse : List Moment)
+            → PeripheralsStand rules self.old keyboard mouse
             → notes.new.items ≡ notes_at Keyboard rules (Ticked tick) keyboard
             ++ notes_at Mouse rules (Ticked tick) mouse }
         ensures lives { (count : ℕ) → HasLivesWithin count self.old → HasLivesWithin count self.new }
@@ -83,10 +87,12 @@ impl Peripherals {
     pub fn change(&mut self, change: HealthChange, tick: Tick, orders: &mut Orders)
         requires lives { HasLivesWithin (u32.MAX - 1) self.old }
         requires no_orders { orders.old.items ≡ [] }
-        ensures stands { (rules : RuleSet) (keyboard mouse : List Moment) → PeripheralsStand rules self.old keyboard mouse
+        ensures stands { (rules : RuleSet) (keyboard mouse : List Moment)
+            → PeripheralsStand rules self.old keyboard mouse
             → PeripheralsStand rules self.new (with_moment (change_moment tick change) keyboard)
             (with_moment (change_moment tick change) mouse) }
-        ensures orders { (rules : RuleSet) (keyboard mouse : List Moment) → PeripheralsStand rules self.old keyboard mouse
+        ensures orders { (rules : RuleSet) (keyboard mouse : List Moment)
+            → PeripheralsStand rules self.old keyboard mouse
             → orders.new.items ≡ plug_orders Keyboard rules (change_moment tick change) keyboard
             ++ plug_orders Mouse rules (change_moment tick change) mouse }
         ensures lives { (count : ℕ) → HasLivesWithin count self.old → HasLivesWithin (count + 1) self.new }
@@ -112,11 +118,15 @@ impl Peripherals {
     pub fn attach(&mut self, plug: Plug, tick: Tick, orders: &mut Orders)
         requires lives { HasLivesWithin (u32.MAX - 1) self.old }
         requires no_orders { orders.old.items ≡ [] }
-        ensures stands { (rules : RuleSet) (keyboard mouse : List Moment) → PeripheralsStand rules self.old keyboard mouse
-            → PeripheralsStand rules self.new (with_moment (if_same_plug Keyboard plug (Attached tick)) keyboard)
+        ensures stands { (rules : RuleSet) (keyboard mouse : List Moment)
+            → PeripheralsStand rules self.old keyboard mouse
+            → PeripheralsStand rules self.new
+            (with_moment (if_same_plug Keyboard plug (Attached tick)) keyboard)
             (with_moment (if_same_plug Mouse plug (Attached tick)) mouse) }
-        ensures orders { (rules : RuleSet) (keyboard mouse : List Moment) → PeripheralsStand rules self.old keyboard mouse
-            → orders.new.items ≡ plug_orders Keyboard rules (if_same_plug Keyboard plug (Attached tick)) keyboard
+        ensures orders { (rules : RuleSet) (keyboard mouse : List Moment)
+            → PeripheralsStand rules self.old keyboard mouse
+            → orders.new.items
+            ≡ plug_orders Keyboard rules (if_same_plug Keyboard plug (Attached tick)) keyboard
             ++ plug_orders Mouse rules (if_same_plug Mouse plug (Attached tick)) mouse }
         ensures lives { (count : ℕ) → HasLivesWithin count self.old → HasLivesWithin (count + 1) self.new }
         ensures few_orders { length orders.new.items ≤ 2 }
@@ -132,15 +142,19 @@ impl Peripherals {
     #[tactic(auto, unfolding(console_plug::specs::Shown::shown_keys, console_plug::specs::Shown::shown_buttons))]
     pub fn detach(&mut self, plug: Plug, orders: &mut Orders) -> Shown
         requires { orders.old.items ≡ [] }
-        ensures stands { (rules : RuleSet) (keyboard mouse : List Moment) → PeripheralsStand rules self.old keyboard mouse
+        ensures stands { (rules : RuleSet) (keyboard mouse : List Moment)
+            → PeripheralsStand rules self.old keyboard mouse
             → PeripheralsStand rules self.new (with_moment (if_same_plug Keyboard plug Detached) keyboard)
             (with_moment (if_same_plug Mouse plug Detached) mouse) }
-        ensures orders { (rules : RuleSet) (keyboard mouse : List Moment) → PeripheralsStand rules self.old keyboard mouse
+        ensures orders { (rules : RuleSet) (keyboard mouse : List Moment)
+            → PeripheralsStand rules self.old keyboard mouse
             → orders.new.items ≡ plug_orders Keyboard rules (if_same_plug Keyboard plug Detached) keyboard
             ++ plug_orders Mouse rules (if_same_plug Mouse plug Detached) mouse }
-        ensures shown { (rules : RuleSet) (keyboard mouse : List Moment) → PeripheralsStand rules self.old keyboard mouse
+        ensures shown { (rules : RuleSet) (keyboard mouse : List Moment)
+            → PeripheralsStand rules self.old keyboard mouse
             → shown_concerns result
-            ≡ shown_by rules (if_same_plug Keyboard plug Detached) (if_same_plug Mouse plug Detached) keyboard mouse }
+            ≡ shown_by rules (if_same_plug Keyboard plug Detached)
+            (if_same_plug Mouse plug Detached) keyboard mouse }
         ensures sample { IsShown result }
         ensures lives { (count : ℕ) → HasLivesWithin count self.old → HasLivesWithin count self.new }
         ensures few_orders { length orders.new.items ≤ 1 }
@@ -215,7 +229,8 @@ impl Peripherals {
         ensures shown { let moment = Reported interface bytes.now in
             (rules : RuleSet) (keyboard mouse : List Moment) → PeripheralsStand rules self.old keyboard mouse
             → shown_concerns result
-            ≡ shown_by rules (if_same_plug Keyboard plug moment) (if_same_plug Mouse plug moment) keyboard mouse }
+            ≡ shown_by rules (if_same_plug Keyboard plug moment)
+            (if_same_plug Mouse plug moment) keyboard mouse }
         ensures sample { IsShown result }
         ensures lives { (count : ℕ) → HasLivesWithin count self.old → HasLivesWithin count self.new }
     {

@@ -80,7 +80,8 @@ impl Ports {
     pub fn darken(&mut self)
         ensures count { port_count self.new ≡ port_count self.old }
         ensures gives { give_count self.new.seat ≡ give_count self.old.seat }
-        ensures stands { (chosen : Option ℕ) (views : ℕ → List Item) (tick : ℕ) → PortsStand self.old chosen views
+        ensures stands { (chosen : Option ℕ) (views : ℕ → List Item) (tick : ℕ)
+            → PortsStand self.old chosen views
             → PortsStand self.new None (to_all tick Darkens views) }
     {
         self.seat = all_darkened(&mut self.slots, mem::replace(&mut self.seat, Seat::Between));
@@ -92,9 +93,12 @@ impl Ports {
         requires { give_count self.old.seat < u32.MAX }
         ensures count { port_count self.new ≡ port_count self.old }
         ensures few { give_count self.new.seat ≤ give_count self.old.seat + 1 }
-        ensures stands { (before : Option ℕ) (views : ℕ → List Item) → CanHave (port_count self.old) views chosen
-            → PortsStand self.old before views → PortsStand self.new chosen (selected_to tick before chosen views) }
-        ensures gives { (before : Option ℕ) (views : ℕ → List Item) → CanHave (port_count self.old) views chosen
+        ensures stands { (before : Option ℕ) (views : ℕ → List Item)
+            → CanHave (port_count self.old) views chosen
+            → PortsStand self.old before views
+            → PortsStand self.new chosen (selected_to tick before chosen views) }
+        ensures gives { (before : Option ℕ) (views : ℕ → List Item)
+            → CanHave (port_count self.old) views chosen
             → PortsStand self.old before views
             → give_count self.new.seat ≡ given_after before chosen (give_count self.old.seat) }
     {
@@ -106,7 +110,8 @@ impl Ports {
 
     /// The port that has the console, if one has.
     fn owner(&self) -> Option<PortId>
-        ensures { (chosen : Option ℕ) (views : ℕ → List Item) → PortsStand self.now chosen views → result ≡ chosen }
+        ensures { (chosen : Option ℕ) (views : ℕ → List Item) → PortsStand self.now chosen views
+            → result ≡ chosen }
     {
         match &self.seat {
             Seat::Vacant(_) => None,
@@ -121,10 +126,12 @@ impl Ports {
         requires { give_count self.old.seat < u32.MAX }
         ensures count { port_count self.new ≡ port_count self.old }
         ensures few { give_count self.new.seat ≤ give_count self.old.seat + 1 }
-        ensures stands { (before : Option ℕ) (views : ℕ → List Item) → CanHave (port_count self.old) views chosen
+        ensures stands { (before : Option ℕ) (views : ℕ → List Item)
+            → CanHave (port_count self.old) views chosen
             → PortsStand self.old before views
             → PortsStand self.new chosen (given_to tick chosen (left_by tick before views)) }
-        ensures gives { (before : Option ℕ) (views : ℕ → List Item) → CanHave (port_count self.old) views chosen
+        ensures gives { (before : Option ℕ) (views : ℕ → List Item)
+            → CanHave (port_count self.old) views chosen
             → PortsStand self.old before views
             → give_count self.new.seat ≡ given_after None chosen (give_count self.old.seat) }
     {
@@ -141,7 +148,8 @@ impl Ports {
         requires { IsShown shown.now }
         ensures count { port_count self.new ≡ port_count self.old }
         ensures gives { give_count self.new.seat ≡ give_count self.old.seat }
-        ensures stands { (tick : ℕ) (chosen : Option ℕ) (views : ℕ → List Item) → PortsStand self.old chosen views
+        ensures stands { (tick : ℕ) (chosen : Option ℕ) (views : ℕ → List Item)
+            → PortsStand self.old chosen views
             → PortsStand self.new chosen (shown_to tick chosen (shown_concerns shown.now) views) }
     {
         show_at(&mut self.seat, shown);
@@ -204,7 +212,8 @@ fn all_woken(slots: &mut [Slot], seat: Seat) -> Seat
     ensures wired { IsWired slots.new result }
     ensures gives { give_count result ≡ give_count seat }
     ensures slots { (views : ℕ → List Item) (tick : ℕ) → ((number : ℕ) → is_live (views number) ≡ false)
-        → AllStand slots.old views → SeatStands seat None views → AllStand slots.new (to_all tick Wakes views) }
+        → AllStand slots.old views → SeatStands seat None views
+        → AllStand slots.new (to_all tick Wakes views) }
     ensures seat { (views : ℕ → List Item) (tick : ℕ) → SeatStands seat None views
         → SeatStands result None (to_all tick Wakes views) }
 {
@@ -257,7 +266,8 @@ fn vacated(slots: &mut [Slot], seat: Seat) -> Console<Vacant>
     ensures gives { result.gives ≡ give_count seat }
     ensures slots { (tick : ℕ) (chosen : Option ℕ) (views : ℕ → List Item) → AllStand slots.old views
         → SeatStands seat chosen views → AllStand slots.new (left_by tick chosen views) }
-    ensures vacant { (chosen : Option ℕ) (views : ℕ → List Item) → SeatStands seat chosen views → VacantStands result }
+    ensures vacant { (chosen : Option ℕ) (views : ℕ → List Item) → SeatStands seat chosen views
+        → VacantStands result }
 {
     match seat {
         Seat::Vacant(console) => console,
@@ -277,11 +287,14 @@ fn given(slots: &mut [Slot], console: Console<Vacant>, tick: Tick, port: PortId)
     requires wired { AreWired slots.old (λ number. false) }
     ensures wired { IsWired slots.new result }
     ensures few { give_count result ≤ console.gives + 1 }
-    ensures slots { (views : ℕ → List Item) → CanHave (length slots.old) views (Some port) → AllStand slots.old views
+    ensures slots { (views : ℕ → List Item) → CanHave (length slots.old) views (Some port)
+        → AllStand slots.old views
         → AllStand slots.new (given_to tick (Some port) views) }
-    ensures seat { (views : ℕ → List Item) → CanHave (length slots.old) views (Some port) → AllStand slots.old views
+    ensures seat { (views : ℕ → List Item) → CanHave (length slots.old) views (Some port)
+        → AllStand slots.old views
         → VacantStands console → SeatStands result (Some port) (given_to tick (Some port) views) }
-    ensures gives { (views : ℕ → List Item) → CanHave (length slots.old) views (Some port) → AllStand slots.old views
+    ensures gives { (views : ℕ → List Item) → CanHave (length slots.old) views (Some port)
+        → AllStand slots.old views
         → give_count result ≡ console.gives + 1 }
 {
     let place = port.number() as usize - 1;

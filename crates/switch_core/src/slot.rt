@@ -55,7 +55,8 @@ impl Slot {
         ensures slot { (number : ℕ) → IsSlot false number self.old → IsSlot false number self.new }
         ensures stands { (past : List Item) → SlotStands self.old past
             → SlotStands self.new (item tick (Own Km act.now) ∷ past) }
-        ensures answer { (past : List Item) → SlotStands self.old past → answer.new ≡ answer_to past tick Km act.now }
+        ensures answer { (past : List Item) → SlotStands self.old past
+            → answer.new ≡ answer_to past tick Km act.now }
     {
         match self {
             Slot::Dark(_) => *answer = Answer::Silent,

@@ -135,11 +135,13 @@ fn serve(ports: &mut Ports, front: &mut Front, visits: &mut Visits, event: &Even
     ensures count { port_count ports.new ≡ port_count ports.old }
     ensures few { give_count ports.new.seat ≤ give_count ports.old.seat + 1 }
     ensures ports { (rules : RuleSet) (past : List Seen) → PartsStand rules ports.old front.old past
-        → PortsStand ports.new (selected_at rules (front_of (seen event.now ∷ past))) (views_of rules (seen event.now ∷ past)) }
+        → PortsStand ports.new (selected_at rules (front_of (seen event.now ∷ past)))
+        (views_of rules (seen event.now ∷ past)) }
     ensures gives { (rules : RuleSet) (past : List Seen) → PartsStand rules ports.old front.old past
         → give_count ports.new.seat ≡ selections rules (front_of (seen event.now ∷ past)) }
     ensures front { (rules : RuleSet) (past : List Seen) → PartsStand rules ports.old front.old past
-        → FrontStands rules front.new (front_of (seen event.now ∷ past)) (bridge_after rules (seen event.now ∷ past)) }
+        → FrontStands rules front.new (front_of (seen event.now ∷ past))
+        (bridge_after rules (seen event.now ∷ past)) }
     ensures line { (rules : RuleSet) (past : List Seen) → PartsStand rules ports.old front.old past
         → line_with (seen event.now) turn.new.answer ≡ line_at rules (seen event.now) past }
     ensures orders { (rules : RuleSet) (past : List Seen) → PartsStand rules ports.old front.old past
@@ -280,7 +282,8 @@ fn serve_move(
     requires no_notes { notes.old.items ≡ [] }
     ensures count { port_count ports.new ≡ port_count ports.old }
     ensures few { give_count ports.new.seat ≡ give_count ports.old.seat }
-    ensures ports { (rules : RuleSet) (past : List Seen) → let event : Seen = record { tick = tick; happening = AtFront (PanelMoves panel) } in
+    ensures ports { (rules : RuleSet) (past : List Seen)
+        → let event : Seen = record { tick = tick; happening = AtFront (PanelMoves panel) } in
         PartsStand rules ports.old front.old past
         → PortsStand ports.new (selected_at rules (front_of (event ∷ past))) (views_of rules (event ∷ past)) }
     ensures front { (rules : RuleSet) (past : List FrontEvent) (bridge : BridgePast)

@@ -28,11 +28,14 @@ pub(crate) fn change_token(
 )
     requires lives { token.old.slot.life < u32.MAX }
     requires room { length orders.old.items + 2 ≤ ORDERS_MAX }
-    ensures stands { (rules : RuleSet) (past : List Moment) (bridge : BridgePast) → TokenStands rules token.old past bridge
+    ensures stands { (rules : RuleSet) (past : List Moment) (bridge : BridgePast)
+        → TokenStands rules token.old past bridge
         → TokenStands rules token.new (change_moments tick change ++ past)
         (bridge_over rules (change_moments tick change) past bridge) }
-    ensures orders { (rules : RuleSet) (past : List Moment) (bridge : BridgePast) → TokenStands rules token.old past bridge
-        → orders.new.items ≡ orders.old.items ++ given_over (orders_at rules) (change_moments tick change) past }
+    ensures orders { (rules : RuleSet) (past : List Moment) (bridge : BridgePast)
+        → TokenStands rules token.old past bridge
+        → orders.new.items
+        ≡ orders.old.items ++ given_over (orders_at rules) (change_moments tick change) past }
     ensures few { token.new.slot.life ≤ token.old.slot.life + 1 }
     ensures few_jobs { jobs_of token.new.bridge ≤ jobs_of token.old.bridge }
 {
@@ -47,11 +50,14 @@ pub(crate) fn change_token(
 pub(crate) fn attach_token(token: &mut TokenPlug, plug: Plug, tick: Tick, orders: &mut Orders)
     requires lives { token.old.slot.life < u32.MAX }
     requires room { length orders.old.items + 2 ≤ ORDERS_MAX }
-    ensures stands { (rules : RuleSet) (past : List Moment) (bridge : BridgePast) → TokenStands rules token.old past bridge
+    ensures stands { (rules : RuleSet) (past : List Moment) (bridge : BridgePast)
+        → TokenStands rules token.old past bridge
         → TokenStands rules token.new (if_token plug (Attached tick) ++ past)
         (bridge_over rules (if_token plug (Attached tick)) past bridge) }
-    ensures orders { (rules : RuleSet) (past : List Moment) (bridge : BridgePast) → TokenStands rules token.old past bridge
-        → orders.new.items ≡ orders.old.items ++ given_over (orders_at rules) (if_token plug (Attached tick)) past }
+    ensures orders { (rules : RuleSet) (past : List Moment) (bridge : BridgePast)
+        → TokenStands rules token.old past bridge
+        → orders.new.items
+        ≡ orders.old.items ++ given_over (orders_at rules) (if_token plug (Attached tick)) past }
     ensures few { token.new.slot.life ≤ token.old.slot.life + 1 }
     ensures few_jobs { jobs_of token.new.bridge ≤ jobs_of token.old.bridge }
 {
@@ -65,11 +71,14 @@ pub(crate) fn attach_token(token: &mut TokenPlug, plug: Plug, tick: Tick, orders
 /// What is at this plug is taken off.
 pub(crate) fn detach_token(token: &mut TokenPlug, plug: Plug, tick: Tick, orders: &mut Orders)
     requires { length orders.old.items + 1 ≤ ORDERS_MAX }
-    ensures stands { (rules : RuleSet) (past : List Moment) (bridge : BridgePast) → TokenStands rules token.old past bridge
+    ensures stands { (rules : RuleSet) (past : List Moment) (bridge : BridgePast)
+        → TokenStands rules token.old past bridge
         → TokenStands rules token.new (if_token plug (Detached tick) ++ past)
         (bridge_over rules (if_token plug (Detached tick)) past bridge) }
-    ensures orders { (rules : RuleSet) (past : List Moment) (bridge : BridgePast) → TokenStands rules token.old past bridge
-        → orders.new.items ≡ orders.old.items ++ given_over (orders_at rules) (if_token plug (Detached tick)) past }
+    ensures orders { (rules : RuleSet) (past : List Moment) (bridge : BridgePast)
+        → TokenStands rules token.old past bridge
+        → orders.new.items
+        ≡ orders.old.items ++ given_over (orders_at rules) (if_token plug (Detached tick)) past }
     ensures few { token.new.slot.life ≡ token.old.slot.life }
     ensures few_jobs { jobs_of token.new.bridge ≤ jobs_of token.old.bridge }
 {
@@ -124,13 +133,18 @@ pub(crate) fn select_token(
 )
     requires room { length orders.old.items + 1 ≤ ORDERS_MAX }
     requires lines { length notes.old.items + 1 ≤ NOTES_MAX }
-    ensures stands { (rules : RuleSet) (past : List Moment) (bridge : BridgePast) → TokenStands rules token.old past bridge
+    ensures stands { (rules : RuleSet) (past : List Moment) (bridge : BridgePast)
+        → TokenStands rules token.old past bridge
         → TokenStands rules token.new (move_moments tick moved.now ++ past)
         (bridge_over rules (move_moments tick moved.now) past bridge) }
-    ensures orders { (rules : RuleSet) (past : List Moment) (bridge : BridgePast) → TokenStands rules token.old past bridge
-        → orders.new.items ≡ orders.old.items ++ given_over (orders_at rules) (move_moments tick moved.now) past }
-    ensures notes { (rules : RuleSet) (past : List Moment) (bridge : BridgePast) → TokenStands rules token.old past bridge
-        → notes.new.items ≡ notes.old.items ++ given_over (notes_at rules) (move_moments tick moved.now) past }
+    ensures orders { (rules : RuleSet) (past : List Moment) (bridge : BridgePast)
+        → TokenStands rules token.old past bridge
+        → orders.new.items
+        ≡ orders.old.items ++ given_over (orders_at rules) (move_moments tick moved.now) past }
+    ensures notes { (rules : RuleSet) (past : List Moment) (bridge : BridgePast)
+        → TokenStands rules token.old past bridge
+        → notes.new.items
+        ≡ notes.old.items ++ given_over (notes_at rules) (move_moments tick moved.now) past }
     ensures few { token.new.slot.life ≡ token.old.slot.life }
     ensures few_jobs { jobs_of token.new.bridge ≤ jobs_of token.old.bridge }
 {

@@ -70,7 +70,8 @@ impl TokenPlug {
         requires room { length orders.old.items + 2 ≤ ORDERS_MAX }
         ensures stands { (rules : RuleSet) (past : List Moment) (bridge : BridgePast)
             → TokenStands rules self.old past bridge
-            → TokenStands rules self.new (Attached tick ∷ past) (bridge_at rules (Attached tick) past bridge) }
+            → TokenStands rules self.new (Attached tick ∷ past)
+            (bridge_at rules (Attached tick) past bridge) }
         ensures orders { (rules : RuleSet) (past : List Moment) (bridge : BridgePast)
             → TokenStands rules self.old past bridge
             → orders.new.items ≡ orders.old.items ++ orders_at rules (Attached tick) past }
@@ -109,7 +110,8 @@ impl TokenPlug {
         requires room { length orders.old.items + 1 ≤ ORDERS_MAX }
         ensures stands { (rules : RuleSet) (past : List Moment) (bridge : BridgePast)
             → TokenStands rules self.old past bridge
-            → TokenStands rules self.new (Detached tick ∷ past) (bridge_at rules (Detached tick) past bridge) }
+            → TokenStands rules self.new (Detached tick ∷ past)
+            (bridge_at rules (Detached tick) past bridge) }
         ensures orders { (rules : RuleSet) (past : List Moment) (bridge : BridgePast)
             → TokenStands rules self.old past bridge
             → orders.new.items ≡ orders.old.items ++ orders_at rules (Detached tick) past }
@@ -128,7 +130,8 @@ impl TokenPlug {
         requires room { length orders.old.items + 1 ≤ ORDERS_MAX }
         ensures stands { (rules : RuleSet) (past : List Moment) (bridge : BridgePast)
             → TokenStands rules self.old past bridge
-            → TokenStands rules self.new (Darkened tick ∷ past) (bridge_at rules (Darkened tick) past bridge) }
+            → TokenStands rules self.new (Darkened tick ∷ past)
+            (bridge_at rules (Darkened tick) past bridge) }
         ensures orders { (rules : RuleSet) (past : List Moment) (bridge : BridgePast)
             → TokenStands rules self.old past bridge
             → orders.new.items ≡ orders.old.items ++ orders_at rules (Darkened tick) past }
@@ -197,15 +200,19 @@ impl TokenPlug {
     )
         requires room { length orders.old.items + 1 ≤ ORDERS_MAX }
         requires empty { notes.old.items ≡ [] }
-        ensures stands { (past : List Moment) (bridge : BridgePast) → TokenStands rules.now self.old past bridge
+        ensures stands { (past : List Moment) (bridge : BridgePast)
+            → TokenStands rules.now self.old past bridge
             → TokenStands rules.now self.new
             (Replied life number tick (reply_of status bytes.now) ∷ past)
             (bridge_at rules.now (Replied life number tick (reply_of status bytes.now)) past bridge) }
-        ensures orders { (past : List Moment) (bridge : BridgePast) → TokenStands rules.now self.old past bridge
+        ensures orders { (past : List Moment) (bridge : BridgePast)
+            → TokenStands rules.now self.old past bridge
             → orders.new.items ≡ orders.old.items
             ++ orders_at rules.now (Replied life number tick (reply_of status bytes.now)) past }
-        ensures notes { (past : List Moment) (bridge : BridgePast) → TokenStands rules.now self.old past bridge
-            → notes.new.items ≡ notes_at rules.now (Replied life number tick (reply_of status bytes.now)) past }
+        ensures notes { (past : List Moment) (bridge : BridgePast)
+            → TokenStands rules.now self.old past bridge
+            → notes.new.items
+            ≡ notes_at rules.now (Replied life number tick (reply_of status bytes.now)) past }
         ensures few { self.new.slot.life ≡ self.old.slot.life }
         ensures few_orders { length orders.new.items ≤ length orders.old.items + 1 }
         ensures few_jobs { jobs_of self.new.bridge ≤ jobs_of self.old.bridge }
@@ -229,7 +236,8 @@ impl TokenPlug {
         requires lines { length notes.old.items + 1 ≤ NOTES_MAX }
         ensures stands { (rules : RuleSet) (past : List Moment) (bridge : BridgePast)
             → TokenStands rules self.old past bridge
-            → TokenStands rules self.new (Selected port ∷ past) (bridge_at rules (Selected port) past bridge) }
+            → TokenStands rules self.new (Selected port ∷ past)
+            (bridge_at rules (Selected port) past bridge) }
         ensures notes { (rules : RuleSet) (past : List Moment) (bridge : BridgePast)
             → TokenStands rules self.old past bridge
             → notes.new.items ≡ notes.old.items ++ notes_at rules (Selected port) past }
@@ -534,15 +542,19 @@ impl TokenPlug {
         ensures setting { (self.new.alive ≡ self.old.alive) × (self.new.attached ≡ self.old.attached)
             × (self.new.selected ≡ Some port) × (self.new.attachment ≡ self.old.attachment) }
         ensures slot { (rules : RuleSet) (told : Told) → PartsStand rules self.old told
-            → (IsTrue (is_checked (state_after told.slot)) → IsTrue (is_ready_in Token rules (life_of rules told)))
+            → (IsTrue (is_checked (state_after told.slot))
+            → IsTrue (is_ready_in Token rules (life_of rules told)))
             → SlotStands self.new.slot (chosen None port told).slot }
         ensures bridge { (rules : RuleSet) (told : Told) → PartsStand rules self.old told
-            → (IsTrue (is_checked (state_after told.slot)) → IsTrue (is_ready_in Token rules (life_of rules told)))
+            → (IsTrue (is_checked (state_after told.slot))
+            → IsTrue (is_ready_in Token rules (life_of rules told)))
             → (bridge : BridgePast) → BridgeStands self.old.bridge bridge
             → BridgeStands self.new.bridge (if is_checked (state_after told.slot)
-            then brought_up (up_of (lives told.slot) (shape_of_life Token rules (life_of rules told))) else bridge) }
+            then brought_up
+            (up_of (lives told.slot) (shape_of_life Token rules (life_of rules told))) else bridge) }
         ensures notes { (rules : RuleSet) (told : Told) → PartsStand rules self.old told
-            → (IsTrue (is_checked (state_after told.slot)) → IsTrue (is_ready_in Token rules (life_of rules told)))
+            → (IsTrue (is_checked (state_after told.slot))
+            → IsTrue (is_ready_in Token rules (life_of rules told)))
             → notes.new.items ≡ notes.old.items
             ++ (if is_checked (state_after told.slot) then Note.Routed port ∷ [] else []) }
         ensures few { self.new.slot.life ≡ self.old.slot.life }
@@ -561,15 +573,18 @@ impl TokenPlug {
         requires lines { length notes.old.items + 1 ≤ NOTES_MAX }
         ensures setting { (self.new.alive ≡ self.old.alive) × (self.new.attached ≡ self.old.attached)
             × (self.new.selected ≡ self.old.selected) × (self.new.attachment ≡ self.old.attachment) }
-        ensures slot { (rules : RuleSet) (calls : List Call) → AttachmentStands Token rules self.old.attachment calls
+        ensures slot { (rules : RuleSet) (calls : List Call)
+            → AttachmentStands Token rules self.old.attachment calls
             → IsTrue (is_ready_in Token rules (standing Token rules calls).life)
             → (told : List SlotCall) → SlotStands self.old.slot told
             → SlotStands self.new.slot (Route port ∷ told) }
-        ensures bridge { (rules : RuleSet) (calls : List Call) → AttachmentStands Token rules self.old.attachment calls
+        ensures bridge { (rules : RuleSet) (calls : List Call)
+            → AttachmentStands Token rules self.old.attachment calls
             → IsTrue (is_ready_in Token rules (standing Token rules calls).life)
             → BridgeStands self.new.bridge (brought_up
             (up_of self.old.slot.life (shape_of_life Token rules (standing Token rules calls).life))) }
-        ensures notes { (rules : RuleSet) (calls : List Call) → AttachmentStands Token rules self.old.attachment calls
+        ensures notes { (rules : RuleSet) (calls : List Call)
+            → AttachmentStands Token rules self.old.attachment calls
             → IsTrue (is_ready_in Token rules (standing Token rules calls).life)
             → notes.new.items ≡ notes.old.items ++ Note.Routed port ∷ [] }
         ensures few { self.new.slot.life ≡ self.old.slot.life }
