@@ -1,5 +1,5 @@
 //! The bytes of a capture: its header, and the heads of its records.
-ghost use Rattle.std.specs.Prelude.{◌≡◌, ℕ, ◌+◌, ◌≤◌, ◌&&◌, nat_lt, nat_le, length, IsTrue, OnOk, IfOk, IfErr, Ok, Err};
+ghost use Rattle.std.specs.Prelude.{◌≡◌, ◌+◌, ◌≤◌, ◌&&◌, nat_lt, nat_le, length, IsTrue, OnOk, IfOk, IfErr, Ok, Err};
 ghost use Rattle.capture_reader.specs.Capture.{header, head_of, kind_of, form_of, has_fit_length, kind_in, announced};
 ghost use Rattle.capture_reader.specs.Fault.{record_stop};
 ghost use Rattle.capture_reader.specs.Source.{IsFaulty, IsFormWithin};
@@ -17,17 +17,6 @@ const TOKEN: u8 = 3;
 
 /// The most bytes of a payload: those of a reply, or of a job's end, nine and a block.
 pub const PAYLOAD_MAX: u16 = 1033;
-
-// The numbers of the kinds that come often: a clock, and the acts of a host.
-pub const CLOCK: u8 = 0x01;
-
-pub const RESET: u8 = 0x10;
-
-pub const SETUP: u8 = 0x11;
-
-pub const OUT: u8 = 0x12;
-
-pub const IN: u8 = 0x13;
 
 /// What is added to a port's number for its KM connector.
 const KM_BASE: u8 = 0x40;
@@ -85,11 +74,11 @@ fn read_kind(number: u8) -> Result<Kind, CaptureFault>
     ensures { result ≡ kind_of number }
 {
     match number {
-        CLOCK => Ok(Kind::Clock),
-        RESET => Ok(Kind::Act(ActKind::Reset)),
-        SETUP => Ok(Kind::Act(ActKind::Setup)),
-        OUT => Ok(Kind::Act(ActKind::Out)),
-        IN => Ok(Kind::Act(ActKind::In)),
+        0x01 => Ok(Kind::Clock),
+        0x10 => Ok(Kind::Act(ActKind::Reset)),
+        0x11 => Ok(Kind::Act(ActKind::Setup)),
+        0x12 => Ok(Kind::Act(ActKind::Out)),
+        0x13 => Ok(Kind::Act(ActKind::In)),
         0x20 => Ok(Kind::Plug(PlugKind::Attach)),
         0x21 => Ok(Kind::Plug(PlugKind::Detach)),
         0x22 => Ok(Kind::Plug(PlugKind::Reply)),
@@ -221,20 +210,6 @@ pub fn announce(ports: u8, last: Tick, head: &Head) -> Result<Form, CaptureFault
         return Err(CaptureFault::TickBack);
     }
     let kind = read_kind(head.kind)?;
-    announce_as(ports, kind, head)
-}
-
-/// What a head of this kind announces where its tick is in order, or the first of its further checks that fails.
-#[tactic(auto, unfolding(crate::specs::Capture::announced))]
-#[inline(always)]
-pub fn announce_as(ports: u8, kind: Kind, head: &Head) -> Result<Form, CaptureFault>
-    requires ports { ports ≤ MAX_PORTS }
-    requires kind { kind_of head.now.kind ≡ Ok kind }
-    ensures value { (last : ℕ) → last ≤ head.now.tick → result ≡ announced ports last head.now }
-    ensures within { IfOk result (IsFormWithin ports) }
-    ensures fits { IfOk result (λ form. IsTrue (has_fit_length (kind_in form) head.now.length)) }
-    ensures small { OnOk result (head.now.length ≤ PAYLOAD_MAX) }
-{
     let fits = fits(kind, head.length);
     let form = read_form(kind, ports, head.who)?;
     if !fits {

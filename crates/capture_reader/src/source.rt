@@ -1,10 +1,8 @@
 //! A capture as a source of events, read one record ahead.
 use crate::ahead::Ahead;
-use crate::decode::{
-    CLOCK, HEAD_SIZE, IN, OUT, RESET, SETUP, announce, announce_as, read_head, read_header,
-};
+use crate::decode::{HEAD_SIZE, announce, read_head, read_header};
 use crate::fault::RecordFault;
-use crate::form::{ActKind, Form, Head, Kind};
+use crate::form::{Form, Head};
 use crate::payload::read_record;
 use crate::window::{WINDOW_SIZE, Window};
 use psd_base::{CaptureFault, Desk, Input, MAX_PORTS, Tick};
@@ -25,7 +23,7 @@ impl CaptureSource {
     ghost use Rattle.std.specs.Prelude.{◌≡◌, ℕ, ◌+◌, ◌<◌, ◌≤◌, ◌^◌, List, [], length, drop, true, false, Some, None, Ok, Err, option_map};
     ghost use Rattle.std.specs.Prelude.{IfOk, IfErr, IfSome, IfNone, IsSomeAnd, OnOk, OnErr};
     ghost use Rattle.capture_reader.specs.Ahead.{ahead_of};
-    ghost use Rattle.capture_reader.specs.Capture.{header, head_of, kind_of, size_of, records};
+    ghost use Rattle.capture_reader.specs.Capture.{header, head_of, size_of, records};
     ghost use Rattle.capture_reader.specs.Fault.{record_stop};
     ghost use Rattle.capture_reader.specs.Schedule.{in_front};
     ghost use Rattle.capture_reader.specs.Source.{later, records_later, records_in, after_ahead, AnnouncesNext, EndsNow, FailedLook, IsFaulty, IsNext, LookFailed, OpenFailed};
@@ -220,74 +218,10 @@ impl CaptureSource {
         }
     }
 
-    /// The next record, which is held, becomes the one that was read ahead, if it is sound. Each kind that comes often has
-    /// a call of its own, which is inlined: so what is judged and read then is known, and the kind is asked once.
+    /// The next record, which is held, becomes the one that was read ahead, if it is sound. Nothing comes between its
+    /// head and its payload, so that the compiler asks for its kind once.
     #[inline(always)]
-    #[tactic(auto, unfolding(crate::specs::Capture::kind_of))]
     fn take_held(&mut self, head: &Head) -> Result<(), RecordFault>
-        requires whole { 8 ≤ length self.old.window.bytes }
-        requires head { head_of self.old.window.bytes ≡ head.now }
-        requires enough { size_of head.now ≤ length self.old.window.bytes }
-        requires ports { self.old.ports ≤ MAX_PORTS }
-        requires offset { self.old.offset < 2 ^ 63 }
-        ensures ports { self.new.ports ≡ self.old.ports }
-        ensures window { self.new.window.ended ≡ self.old.window.ended }
-        ensures tick { self.old.tick ≤ self.new.tick }
-        ensures offset { self.new.offset ≤ self.old.offset + WINDOW_SIZE }
-        ensures ahead { OnOk result (IsSomeAnd (ahead_of self.new.ahead) (λ event. IsNext self.new event
-            × ((left : List ℕ)
-            → records self.old.ports self.old.tick self.old.offset 0 (coming self.old.window left)
-            ≡ in_front event
-            (records self.new.ports self.new.tick self.new.offset 0 (coming self.new.window left))))) }
-        ensures err { (before after : Told) → IfErr result
-            (LookFailed self.old.ports self.old.tick self.old.offset self.new.window before after) }
-        ensures same { OnErr result (self.new ≡ self.old) }
-    {
-        if head.tick < self.tick {
-            return Err(self.fault(CaptureFault::TickBack));
-        }
-        match head.kind {
-            CLOCK => self.take_kind(head, Kind::Clock),
-            RESET => self.take_kind(head, Kind::Act(ActKind::Reset)),
-            SETUP => self.take_kind(head, Kind::Act(ActKind::Setup)),
-            OUT => self.take_kind(head, Kind::Act(ActKind::Out)),
-            IN => self.take_kind(head, Kind::Act(ActKind::In)),
-            _ => self.take_any(head),
-        }
-    }
-
-    /// The next record, which is held and of this kind, becomes the one that was read ahead, if it is sound.
-    #[inline(always)]
-    fn take_kind(&mut self, head: &Head, kind: Kind) -> Result<(), RecordFault>
-        requires whole { 8 ≤ length self.old.window.bytes }
-        requires head { head_of self.old.window.bytes ≡ head.now }
-        requires order { self.old.tick ≤ head.now.tick }
-        requires kind { kind_of head.now.kind ≡ Ok kind }
-        requires enough { size_of head.now ≤ length self.old.window.bytes }
-        requires ports { self.old.ports ≤ MAX_PORTS }
-        requires offset { self.old.offset < 2 ^ 63 }
-        ensures ports { self.new.ports ≡ self.old.ports }
-        ensures window { self.new.window.ended ≡ self.old.window.ended }
-        ensures tick { self.old.tick ≤ self.new.tick }
-        ensures offset { self.new.offset ≤ self.old.offset + WINDOW_SIZE }
-        ensures ahead { OnOk result (IsSomeAnd (ahead_of self.new.ahead) (λ event. IsNext self.new event
-            × ((left : List ℕ)
-            → records self.old.ports self.old.tick self.old.offset 0 (coming self.old.window left)
-            ≡ in_front event
-            (records self.new.ports self.new.tick self.new.offset 0 (coming self.new.window left))))) }
-        ensures err { (before after : Told) → IfErr result
-            (LookFailed self.old.ports self.old.tick self.old.offset self.new.window before after) }
-        ensures same { OnErr result (self.new ≡ self.old) }
-    {
-        match announce_as(self.ports, kind, head) {
-            Ok(form) => self.take_record(head, form),
-            Err(why) => Err(self.fault(why)),
-        }
-    }
-
-    /// The next record, which is held, becomes the one that was read ahead, if it is sound.
-    #[inline(always)]
-    fn take_any(&mut self, head: &Head) -> Result<(), RecordFault>
         requires whole { 8 ≤ length self.old.window.bytes }
         requires head { head_of self.old.window.bytes ≡ head.now }
         requires enough { size_of head.now ≤ length self.old.window.bytes }
