@@ -1,4 +1,5 @@
+pub mod Collecting
 mod Examples
-mod Reordering
+pub mod Reordering
 mod Sorting
 mod Visiting

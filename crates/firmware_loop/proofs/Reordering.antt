@@ -24,12 +24,15 @@ use Rattle.port_model.specs.Token.{token_life, token_port}
 use Rattle.port_model.specs.View.{only_if, stamped, view}
 use Rattle.port_model.proofs.Numbers.{other_number, same_number}
 use Rattle.switch_core.proofs.Owning.{jobs_are_the_owners}
-use Rattle.firmware_loop.specs.declared.batch.PortEvent.{PortEvent}
 use Rattle.firmware_loop.specs.declared.timed_job.TimedJob.{TimedJob}
-use Rattle.firmware_loop.specs.Batches.{AreActsOfPorts, at_port, by_lanes, first_job, jobs_among, lane_lines, line_for, schedule, schedule_jobs, seen_of}
+use Rattle.firmware_loop.specs.Batches.{AreActsOfPorts, PortEvent, at_port, by_lanes, first_job, jobs_among, lane_lines, line_for, schedule, schedule_jobs, seen_of}
 use Rattle.firmware_loop.proofs.Sorting.{at_port-other, at_port-own, by_lanes-behind, by_lanes-same}
 
 -- One schedule after another
+
+pub schedule-append : (first second : List PortEvent) → schedule (first ++ second) ≡ schedule first ++ schedule second
+schedule-append [] second = refl
+schedule-append (event ∷ first) second = ap (λ (events : List Seen). seen_of event ∷ events) (schedule-append first second)
 
 pub onto-append : (first second : List PortEvent) (past : List Seen)
     → onto (schedule (first ++ second)) past ≡ onto (schedule second) (onto (schedule first) past)

@@ -1,12 +1,11 @@
 -- Acts sorted by their ports: nothing is lost, and each port keeps its own in their order.
-use Rattle.std.proofs.Common.{◌≡◌, ◌≢◌, ℕ, zero, suc, ◌+◌, ◌<◌, ◌≤◌, Bool, true, false, List, [], ◌∷◌, ◌++◌, length, get_or, take, drop, nat_eq, inl, inr, refl, sym, ap, ◌∙◌, arith, length-append}
+use Rattle.std.proofs.Common.{◌≡◌, ◌≢◌, ℕ, zero, suc, ◌≤◌, Bool, true, false, List, [], ◌∷◌, ◌++◌, nat_eq, inl, inr, refl, sym, ap, ◌∙◌, arith}
 use Rattle.std.proofs.lemmas.Bool.Decides.{eqb_tells, leb_tells}
-use Rattle.std.proofs.lemmas.List.{append-nil, take-append-drop, take_more}
+use Rattle.std.proofs.lemmas.List.{append-nil}
 use Rattle.psd_base.specs.declared.port.TheConstants.{MAX_PORTS}
 use Rattle.psd_base.specs.Port.{IsPort}
 use Rattle.port_model.proofs.Numbers.{other_number, same_number}
-use Rattle.firmware_loop.specs.declared.batch.PortEvent.{PortEvent}
-use Rattle.firmware_loop.specs.Batches.{AreActsOfPorts, at_port, by_lanes, kept_if, one_if_some, ports_with_acts}
+use Rattle.firmware_loop.specs.Batches.{AreActsOfPorts, PortEvent, at_port, by_lanes, kept_if}
 
 -- The acts of a port
 
@@ -46,25 +45,6 @@ at_port-apart port other (event ∷ events) apart = elim (eqb_tells event.port o
   | inr is ↦ ap (at_port port) (at_port-other other event events is.1) ∙ at_port-apart port other events apart
 ]
 
--- one act more of a list
-pub at_port-more : (port place : ℕ) (events : List PortEvent) (event : PortEvent) → place < length events → event ≡ get_or events place event
-    → at_port port (take (place + 1) events) ≡ at_port port (take place events) ++ at_port port (event ∷ [])
-at_port-more port place events event within is =
-    ap (at_port port) (take_more events place event within ∙ ap (λ (next : PortEvent). take place events ++ next ∷ []) (sym is))
-    ∙ at_port-append port (take place events) (event ∷ [])
-
-pub at_port-fits : (port place : ℕ) (events : List PortEvent) (event : PortEvent) → place < length events → event ≡ get_or events place event
-    → length (at_port port (take place events)) + length (at_port port (event ∷ [])) ≤ length (at_port port events)
-at_port-fits port place events event within is =
-    let parts : length (at_port port events) ≡ length (at_port port (take (place + 1) events)) + length (at_port port (drop (place + 1) events)) =
-    ap (λ (all : List PortEvent). length (at_port port all)) (sym (take-append-drop (place + 1) events))
-    ∙ ap (λ (all : List PortEvent). length all) (at_port-append port (take (place + 1) events) (drop (place + 1) events))
-    ∙ length-append (at_port port (take (place + 1) events)) (at_port port (drop (place + 1) events)) in
-    let more : length (at_port port (take (place + 1) events)) ≡ length (at_port port (take place events)) + length (at_port port (event ∷ [])) =
-    ap (λ (all : List PortEvent). length all) (at_port-more port place events event within is)
-    ∙ length-append (at_port port (take place events)) (at_port port (event ∷ [])) in
-    omega (arith, parts, more)
-
 -- no act is one of a number that isn't a port's
 at_port-none : (port : ℕ) (events : List PortEvent) → AreActsOfPorts events → ((number : ℕ) → IsPort number → number ≢ port) → at_port port events ≡ []
 at_port-none port [] acts none = refl
@@ -73,13 +53,6 @@ at_port-none port (event ∷ events) acts none =
     ∙ at_port-none port events (λ place d within. acts (suc place) d (omega arith)) none
 
 -- The acts of the first ports
-
-pub by_lanes-next : (count : ℕ) (events : List PortEvent) → by_lanes (count + 1) events ≡ by_lanes count events ++ at_port (count + 1) events
-by_lanes-next count events = let next : count + 1 ≡ suc count = omega arith in rw next refl
-
-pub ports_with_acts-next : (count : ℕ) (events : List PortEvent)
-    → ports_with_acts (count + 1) events ≡ ports_with_acts count events + one_if_some (at_port (count + 1) events)
-ports_with_acts-next count events = let next : count + 1 ≡ suc count = omega arith in rw next refl
 
 -- a port behind them has none among them
 pub by_lanes-behind : (port count : ℕ) (events : List PortEvent) → ((number : ℕ) → 1 ≤ number → number ≤ count → number ≢ port) → at_port port (by_lanes count events) ≡ []
@@ -116,71 +89,3 @@ by_lanes-same port events acts = elim (leb_tells 1 port) [
       by_lanes-behind port MAX_PORTS events (λ number low high is. absurd (omega (arith, below.1, is)))
       ∙ sym (at_port-none port events acts (λ number within is. absurd (omega (arith, below.1, within.0, is))))
 ]
-
--- How many there are
-
--- an act of none of the first ports
-by_lanes-other : (count : ℕ) (event : PortEvent) (events : List PortEvent) → ((number : ℕ) → 1 ≤ number → number ≤ count → event.port ≢ number)
-    → by_lanes count (event ∷ events) ≡ by_lanes count events
-by_lanes-other zero event events apart = refl
-by_lanes-other (suc count) event events apart =
-    λ i. by_lanes-other count event events (λ number from to. apart number from (omega arith)) i
-    ++ at_port-other (suc count) event events (apart (suc count) (omega arith) (omega arith)) i
-
--- an act of one of them
-by_lanes-one : (count : ℕ) (event : PortEvent) (events : List PortEvent) → 1 ≤ event.port → event.port ≤ count
-    → length (by_lanes count (event ∷ events)) ≡ suc (length (by_lanes count events))
-by_lanes-one zero event events from to = absurd (omega arith)
-by_lanes-one (suc count) event events from to = elim (eqb_tells event.port (suc count)) [
-  | inl last ↦
-      let parts : length (by_lanes (suc count) (event ∷ events)) ≡ length (by_lanes count events ++ event ∷ at_port (suc count) events) =
-      λ i. length (by_lanes-other count event events (λ number above below is. absurd (omega (arith, last.1, is))) i
-      ++ at_port-own (suc count) event events last.1 i) in
-      let one = length-append (by_lanes count events) (event ∷ at_port (suc count) events) in
-      let all = length-append (by_lanes count events) (at_port (suc count) events) in
-      omega (arith, parts, one, all)
-  | inr before ↦
-      let parts = length-append (by_lanes count (event ∷ events)) (at_port (suc count) (event ∷ events)) in
-      let none = ap (λ (kept : List PortEvent). length kept) (at_port-other (suc count) event events before.1) in
-      let one = by_lanes-one count event events from (omega (arith, before.1)) in
-      let all = length-append (by_lanes count events) (at_port (suc count) events) in
-      omega (arith, parts, none, one, all)
-]
-
-pub by_lanes-few : (count : ℕ) (events : List PortEvent) → length (by_lanes count events) ≤ length events
-by_lanes-few count [] = none count where
-  none : (ports : ℕ) → length (by_lanes ports []) ≤ 0
-  none zero = omega arith
-  none (suc ports) =
-      let before = none ports in
-      let parts = length-append (by_lanes ports []) [] in
-      omega (arith, before, parts)
-by_lanes-few count (event ∷ events) =
-    let rest = by_lanes-few count events in
-    elim (leb_tells 1 event.port) [
-      | inl from ↦ elim (leb_tells event.port count) [
-        | inl to ↦ let one = by_lanes-one count event events from.1 to.1 in omega (arith, one, rest)
-        | inr above ↦
-            let same = ap (λ (kept : List PortEvent). length kept) (by_lanes-other count event events (λ number low high is. absurd (omega (arith, above.1, is)))) in
-            omega (arith, same, rest)
-      ]
-      | inr below ↦
-          let same = ap (λ (kept : List PortEvent). length kept) (by_lanes-other count event events (λ number low high is. absurd (omega (arith, below.1, is)))) in
-          omega (arith, same, rest)
-    ]
-
--- those of the next port fit too
-pub by_lanes-fits : (count : ℕ) (events : List PortEvent) → length (by_lanes count events) + length (at_port (count + 1) events) ≤ length events
-by_lanes-fits count events =
-    let few = by_lanes-few (count + 1) events in
-    let parts : length (by_lanes (count + 1) events) ≡ length (by_lanes count events) + length (at_port (count + 1) events) =
-    ap (λ (all : List PortEvent). length all) (by_lanes-next count events) ∙ length-append (by_lanes count events) (at_port (count + 1) events) in
-    omega (arith, few, parts)
-
-pub by_lanes-all : (events : List PortEvent) → AreActsOfPorts events → length (by_lanes MAX_PORTS events) ≡ length events
-by_lanes-all [] acts = refl
-by_lanes-all (event ∷ events) acts =
-    let port = acts 0 event (omega arith) in
-    let one = by_lanes-one MAX_PORTS event events port.0 port.1 in
-    let rest = by_lanes-all events (λ place d within. acts (suc place) d (omega arith)) in
-    omega (arith, one, rest)

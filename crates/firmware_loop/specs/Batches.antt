@@ -1,6 +1,8 @@
 -- What a batch is as a schedule, and what comes of a schedule: the lines of each port, and the token's jobs. Schedules are
 -- oldest first, the past is newest first.
-use Rattle.std.specs.Prelude.{ℕ, suc, zero, ◌+◌, ◌==◌, ◌≤◌, Bool, true, false, All, List, [], ◌∷◌, ◌++◌, Option, Some, None, if◌then◌else◌}
+use Rattle.std.specs.Prelude.{ℕ, suc, zero, ◌+◌, ◌==◌, ◌≤◌, Bool, true, false, All, List, [], ◌∷◌, ◌++◌, map, Option, Some, None, slice_index_or, if◌then◌else◌}
+use Rattle.psd_base.specs.declared.act.Act.{Act}
+use Rattle.psd_base.specs.declared.act.Side.{Side}
 use Rattle.psd_base.specs.declared.console.Order.{Order}
 use Rattle.psd_base.specs.declared.console.Order.TheVariants as order
 use Rattle.psd_base.specs.declared.line.Line.{Line}
@@ -9,8 +11,14 @@ use Rattle.psd_base.specs.Port.{IsPort}
 use Rattle.peripheral_filter.specs.declared.rule.RuleSet.{RuleSet}
 use Rattle.port_model.specs.Lines.{line_at}
 use Rattle.switch_core.specs.Orders.{orders_at}
-use Rattle.firmware_loop.specs.declared.batch.PortEvent.{PortEvent}
 use Rattle.firmware_loop.specs.declared.timed_job.TimedJob.{TimedJob}
+
+-- the computer of a port acts at one of its connectors
+pub record PortEvent : Type 0 where
+  pub tick : ℕ
+  pub port : ℕ
+  pub side : Side
+  pub act : Act
 
 -- an act of a batch as an event of the schedule
 abbrev pub seen_of : PortEvent → Seen
@@ -68,6 +76,15 @@ abbrev pub by_lanes : ℕ → List PortEvent → List PortEvent
 by_lanes zero events = []
 by_lanes (suc port) events = by_lanes port events ++ at_port (suc port) events
 
+-- the act of a line of this port
+abbrev pub act_of : ℕ → Line → PortEvent
+act_of port line = record { tick = line.tick; port = port; side = line.side; act = line.act }
+
+-- the acts of the first lanes, so many; the first lane is that of port 1
+abbrev pub acts_among : List (List Line) → ℕ → List PortEvent
+acts_among lanes zero = []
+acts_among lanes (suc place) = acts_among lanes place ++ map (act_of (suc place)) (slice_index_or lanes place [])
+
 -- the jobs among orders of which there is at most one
 abbrev pub first_job : ℕ → List Order → List TimedJob
 first_job tick [] = []
@@ -82,3 +99,8 @@ one_if_some (event ∷ events) = 1
 abbrev pub ports_with_acts : ℕ → List PortEvent → ℕ
 ports_with_acts zero events = 0
 ports_with_acts (suc port) events = ports_with_acts port events + one_if_some (at_port (suc port) events)
+
+-- how many of the first lanes, so many, have acts
+abbrev pub lanes_with_acts : List (List Line) → ℕ → ℕ
+lanes_with_acts lanes zero = 0
+lanes_with_acts lanes (suc place) = lanes_with_acts lanes place + one_if_some (map (act_of (suc place)) (slice_index_or lanes place []))

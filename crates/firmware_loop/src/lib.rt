@@ -3,12 +3,13 @@
 #![tactic(auto)]
 
 pub mod batch;
+mod lane;
 pub mod lanes;
 mod row;
 pub mod serving;
 pub mod timed_job;
 
-pub use batch::{BATCH_MAX, Batch, PortEvent};
+pub use batch::BATCH_MAX;
 pub use lanes::Lanes;
 pub use serving::serve;
 pub use timed_job::TimedJob;

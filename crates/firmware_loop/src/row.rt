@@ -7,8 +7,8 @@ use std::marker::Model;
 /// At most `BATCH_MAX` items, in memory that was taken once. Contracts see the list. It costs nothing to empty it.
 #[derive(Drop)]
 pub struct Row<T: Drop> {
-    places: Vec<T>,
-    len: usize,
+    pub(crate) places: Vec<T>,
+    pub(crate) len: usize,
 }
 
 impl<T: Drop> Model for Row<T> {
@@ -40,17 +40,6 @@ impl<T: Drop> Row<T> {
         ensures { result.now ≡ self.now }
     {
         &self.places[..self.len]
-    }
-
-    /// Appends an item. There is room for it.
-    #[inline(always)]
-    #[tactic(auto, using(std::proofs::lemmas::List::take_more_set))]
-    pub fn push(&mut self, item: T)
-        requires { length self.old < BATCH_MAX }
-        ensures { self.new ≡ self.old ++ item ∷ [] }
-    {
-        self.places[self.len] = item;
-        self.len += 1;
     }
 
     /// Drops every item.

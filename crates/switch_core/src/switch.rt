@@ -1,7 +1,7 @@
 //! The switch: its ports and its front, and the step that serves one event.
 ghost use Rattle.std.specs.Prelude.{◌≡◌, ℕ, ◌+◌, ◌-◌, ◌<◌, ◌≤◌, List, [], ◌∷◌, None, IfOk, IfSome, option_map};
 ghost use Rattle.psd_base.specs.Event.{Seen, seen, happening_of, HappensWithin, MovesWithin};
-ghost use Rattle.psd_base.specs.Event.{AtFront, Detaches, PanelMoves, Reports};
+ghost use Rattle.psd_base.specs.Event.{AtFront, Detaches, PanelMoves, PortActs, Reports};
 ghost use Rattle.peripheral_filter.specs.declared.rule.RuleSet.{RuleSet};
 ghost use Rattle.port_model.specs.FrontEvents.{FrontEvent, front_event, front_of};
 ghost use Rattle.port_model.specs.Chosen.{selected_at, selections};
@@ -9,11 +9,13 @@ ghost use Rattle.switch_core.specs.Gives.{gives_at, gives_of};
 ghost use Rattle.switch_core.specs.Notes.{front_notes, notes_at};
 ghost use Rattle.switch_core.specs.Orders.{front_orders, orders_at};
 ghost use Rattle.switch_core.specs.SlotStands.{views_of};
-ghost use Rattle.switch_core.specs.Visits.{visits_after};
+ghost use Rattle.switch_core.specs.Visits.{visited, visits_after};
 ghost use Rattle.switch_core.specs.PortsStand.{PortsStand, port_count};
 ghost use Rattle.switch_core.specs.SeatStands.{give_count};
 ghost use Rattle.switch_core.specs.PartsStand.{PartsStand};
 ghost use Rattle.port_model.specs.Lines.{line_at, line_with};
+ghost use Rattle.port_model.specs.OnePort.{answer_to};
+ghost use Rattle.port_model.specs.View.{view};
 ghost use Rattle.switch_core.specs.FrontStands.{FrontStands, FrontWithin};
 ghost use Rattle.auth_router.specs.Bridge.{BridgePast};
 ghost use Rattle.switch_core.specs.Bridges.{bridge_after, bridge_front};
@@ -25,7 +27,7 @@ use crate::visits::Visits;
 use fail_secure::HealthChange;
 use km_port::{Console, Owned};
 use peripheral_filter::RuleSet;
-use psd_base::act::Side;
+use psd_base::act::{Act, Answer, Side};
 use psd_base::console::{Notes, Orders, Panel, Plug};
 use psd_base::event::{EVENTS_MAX, Event, Tick, What};
 use psd_base::port::{MAX_PORTS, PortId};
@@ -120,6 +122,88 @@ impl Switch {
         );
         self.served += 1;
     }
+
+    /// Serves an act of a computer, as `step` does, for a caller that has a place for each answer. The answer is written there,
+    /// and the orders then are what the act ordered, and nothing else. It takes no memory.
+    #[inline(always)]
+    pub fn act(
+        &mut self,
+        tick: Tick,
+        port: PortId,
+        side: Side,
+        act: &Act,
+        answer: &mut Answer,
+        orders: &mut Orders,
+    )
+        requires known { port ≤ port_total self.old }
+        requires room { self.old.served < EVENTS_MAX }
+        ensures stands { let event : Seen = record { tick = tick; happening = PortActs port side act.now } in
+            (rules : RuleSet) (past : List Seen) → StandsFor rules self.old past
+            → StandsFor rules self.new (event ∷ past) }
+        ensures answer { (rules : RuleSet) (past : List Seen) → StandsFor rules self.old past
+            → answer.new ≡ answer_to (view rules port past) tick side act.now }
+        ensures orders { let event : Seen = record { tick = tick; happening = PortActs port side act.now } in
+            (rules : RuleSet) (past : List Seen) → StandsFor rules self.old past
+            → orders.new.items ≡ orders_at rules event past }
+        ensures served { self.new.served ≡ self.old.served + 1 }
+        ensures visits { self.new.visits ≡ visited port self.old.visits }
+        ensures ports { port_total self.new ≡ port_total self.old }
+    {
+        orders.clear();
+        serve_act(
+            &mut self.ports,
+            &mut self.front,
+            &mut self.visits,
+            tick,
+            port,
+            side,
+            act,
+            answer,
+            orders,
+        );
+        self.served += 1;
+    }
+}
+
+/// Serves an act. Its answer is written to its place.
+#[inline(always)]
+fn serve_act(
+    ports: &mut Ports,
+    front: &mut Front,
+    visits: &mut Visits,
+    tick: Tick,
+    port: PortId,
+    side: Side,
+    act: &Act,
+    answer: &mut Answer,
+    orders: &mut Orders,
+)
+    requires known { port ≤ port_count ports.old }
+    requires within { FrontWithin (u32.MAX - 1) front.old }
+    requires visits { visits.old.count < u32.MAX }
+    requires no_orders { orders.old.items ≡ [] }
+    ensures visits { visits.new ≡ visited port visits.old }
+    ensures few_visits { visits.new.count ≤ visits.old.count + 1 }
+    ensures count { port_count ports.new ≡ port_count ports.old }
+    ensures few { give_count ports.new.seat ≡ give_count ports.old.seat }
+    ensures ports { let event : Seen = record { tick = tick; happening = PortActs port side act.now } in
+        (rules : RuleSet) (past : List Seen) → PartsStand rules ports.old front.old past
+        → PortsStand ports.new (selected_at rules (front_of (event ∷ past))) (views_of rules (event ∷ past)) }
+    ensures front { let event : Seen = record { tick = tick; happening = PortActs port side act.now } in
+        (rules : RuleSet) (past : List Seen) → PartsStand rules ports.old front.old past
+        → FrontStands rules front.new (front_of (event ∷ past)) (bridge_after rules (event ∷ past)) }
+    ensures answer { (rules : RuleSet) (past : List Seen) → PartsStand rules ports.old front.old past
+        → answer.new ≡ answer_to (view rules port past) tick side act.now }
+    ensures orders { let event : Seen = record { tick = tick; happening = PortActs port side act.now } in
+        (rules : RuleSet) (past : List Seen) → PartsStand rules ports.old front.old past
+        → orders.new.items ≡ orders_at rules event past }
+    ensures within { (count : ℕ) → FrontWithin count front.old → FrontWithin (count + 1) front.new }
+{
+    visits.act_at(port);
+    match side {
+        Side::Km => ports.answer(tick, port, act, answer),
+        Side::Ua => front.answer(port, act, answer, orders),
+    }
 }
 
 /// Serves one event. The turn is begun in each case by itself: so the first that is asked is what the event is, which the
@@ -154,11 +238,17 @@ fn serve(ports: &mut Ports, front: &mut Front, visits: &mut Visits, event: &Even
     match &event.what {
         What::Port(port, side, act) => {
             turn.begin();
-            visits.act_at(*port);
-            match side {
-                Side::Km => ports.answer(tick, *port, act, &mut turn.answer),
-                Side::Ua => front.answer(*port, act, &mut turn.answer, &mut turn.orders),
-            }
+            serve_act(
+                ports,
+                front,
+                visits,
+                tick,
+                *port,
+                *side,
+                act,
+                &mut turn.answer,
+                &mut turn.orders,
+            );
         }
         What::Clock => {
             turn.begin();

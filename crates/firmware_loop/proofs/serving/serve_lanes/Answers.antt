@@ -1,107 +1,158 @@
--- One port more, and all of them: the order of the lanes says the same as that of the schedule.
-use Rattle.std.proofs.Common.{◌≡◌, ℕ, ◌+◌, ◌<◌, ◌≤◌, List, [], ◌++◌, length, slice_index_or, slice_set, inl, inr, sym, ap, ◌∙◌, subst, arith, length-append, get_or-set_other, get_or-set_same}
-use Rattle.std.proofs.lemmas.Bool.Decides.{eqb_tells}
-use Rattle.std.proofs.lemmas.List.{length-set}
+-- One lane more.
+use Rattle.std.proofs.Common.{◌≡◌, ℕ, ◌+◌, ◌<◌, ◌≤◌, List, [], ◌++◌, length, map, slice_index_or, slice_set, inl, inr, sym, ap, ◌∙◌, subst, arith, length-append, get_or-set_other, get_or-set_same}
+use Rattle.std.proofs.lemmas.Bool.Decides.{eqb_tells, leb_tells}
+use Rattle.std.proofs.lemmas.List.{get_or_default, length-map, length-set}
+use Rattle.psd_base.specs.declared.event.TheConstants.{EVENTS_MAX}
 use Rattle.psd_base.specs.declared.line.Line.{Line}
 use Rattle.psd_base.specs.declared.port.TheConstants.{MAX_PORTS}
 use Rattle.psd_base.specs.Event.{Seen}
 use Rattle.psd_base.specs.History.{onto}
-use Rattle.switch_core.specs.StandsFor.{StandsFor}
-use Rattle.switch_core.proofs.Commuting.{same_words_same_switch}
-use Rattle.firmware_loop.specs.declared.batch.PortEvent.{PortEvent}
-use Rattle.firmware_loop.specs.declared.timed_job.TimedJob.{TimedJob}
-use Rattle.firmware_loop.specs.Batches.{AreActsOfPorts, at_port, by_lanes, lane_lines, schedule, schedule_jobs, ports_with_acts}
-use Rattle.firmware_loop.proofs.Reordering.{lane_lines-after, onto-append, same_jobs, same_words, schedule_jobs-append}
-use Rattle.firmware_loop.proofs.Sorting.{by_lanes-all, by_lanes-fits, by_lanes-next, ports_with_acts-next}
+use Rattle.switch_core.specs.StandsFor.{StandsFor, port_total}
+use Rattle.firmware_loop.specs.Batches.{AreKnown, PortEvent, act_of, acts_among, lane_lines, lanes_with_acts, one_if_some, schedule, schedule_jobs}
+use Rattle.firmware_loop.proofs.Collecting.{acts_among-fits, acts_among-next, acts_among-unused, known-lane, lanes_with_acts-next, lanes_with_acts-unused}
+use Rattle.firmware_loop.proofs.Reordering.{onto-append, schedule_jobs-append}
 use Rattle.firmware_loop.proofs.serving.serve_lanes.Goals as goal
 
-pub serve_lane-requires-clause-few : goal.serve_lane-requires-clause-few
-serve_lane-requires-clause-few c =
-    let fits = by_lanes-fits c.loop-place.place c.args.events.now in
-    omega (arith, fits, c.requires.few)
+-- a lane that waits is the one that was there
+same_lane : (lanes old : List (List Line)) (index : ℕ) (lane : List Line) → length lanes ≡ MAX_PORTS → index < MAX_PORTS
+    → ((place : ℕ) → index ≤ place → slice_index_or lanes place [] ≡ slice_index_or old place [])
+    → slice_index_or lanes index lane ≡ slice_index_or old index []
+same_lane lanes old index lane size within waiting =
+    let there : index < length lanes = omega (arith, size) in
+    get_or_default lanes index lane [] there ∙ waiting index (omega arith)
 
-pub serve_lane-requires-clause-room : goal.serve_lane-requires-clause-room
-serve_lane-requires-clause-room c =
-    let fits = by_lanes-fits c.loop-place.place c.args.events.now in
-    omega (arith, fits, c.loop-place.invariant.served, c.requires.room)
+pub serve-requires-clause-known : goal.serve-requires-clause-known
+serve-requires-clause-known c =
+    let port : c.port_of.result ≡ c.loop-place.place + 1 = c.port_of.ensures in
+    let here = same_lane c.loop-place.lanes c.args.lanes.now c.loop-place.place c.index-lanes-place.result c.loop-place.invariant.size (omega (arith, c.requires.few_used))
+    c.loop-place.invariant.waiting in
+    subst (λ (acts : List PortEvent). AreKnown (port_total c.loop-place.switch) acts) (λ i. map (act_of (sym port i)) (sym here i))
+    (subst (λ (ports : ℕ). AreKnown ports (map (act_of (c.loop-place.place + 1)) (slice_index_or c.args.lanes.now c.loop-place.place [])))
+    (sym c.loop-place.invariant.ports)
+    (known-lane (port_total c.args.switch.now) c.args.lanes.now c.loop-place.place MAX_PORTS (omega (arith, c.requires.few_used)) c.requires.known))
 
-pub serve_lane-requires-clause-few_jobs : goal.serve_lane-requires-clause-few_jobs
-serve_lane-requires-clause-few_jobs c =
-    let fits = by_lanes-fits c.loop-place.place c.args.events.now in
-    omega (arith, fits, c.loop-place.invariant.few_jobs, c.requires.few)
+pub serve-requires-clause-room : goal.serve-requires-clause-room
+serve-requires-clause-room c =
+    let fits = acts_among-fits c.args.lanes.now c.loop-place.place MAX_PORTS (omega (arith, c.requires.few_used)) in
+    let here = same_lane c.loop-place.lanes c.args.lanes.now c.loop-place.place c.index-lanes-place.result c.loop-place.invariant.size (omega (arith, c.requires.few_used))
+    c.loop-place.invariant.waiting in
+    let same = ap (λ (lane : List Line). length lane) here in
+    let room : c.loop-place.switch.served + length (slice_index_or c.loop-place.lanes c.loop-place.place c.index-lanes-place.result) ≤ EVENTS_MAX =
+    omega (arith, fits, same, c.loop-place.invariant.served, c.requires.room) in
+    room
+
+pub serve-requires-clause-few_jobs : goal.serve-requires-clause-few_jobs
+serve-requires-clause-few_jobs c =
+    let fits = acts_among-fits c.args.lanes.now c.loop-place.place MAX_PORTS (omega (arith, c.requires.few_used)) in
+    let here = same_lane c.loop-place.lanes c.args.lanes.now c.loop-place.place c.index-lanes-place.result c.loop-place.invariant.size (omega (arith, c.requires.few_used))
+    c.loop-place.invariant.waiting in
+    let same = ap (λ (lane : List Line). length lane) here in
+    omega (arith, fits, same, c.loop-place.invariant.few_jobs, c.requires.few)
 
 pub loop-place-preserved : goal.loop-place-preserved
 loop-place-preserved c =
     let before = c.loop-place.invariant in
-    let after = c.serve_lane.ensures in
-    let events = c.args.events.now in
+    let after = c.serve.ensures in
     let index = c.loop-place.place in
+    let old : List (List Line) = c.args.lanes.now in
     let lanes : List (List Line) = c.loop-place.lanes in
-    let lane : List Line = c.serve_lane.new.lane in
-    let first : List PortEvent = by_lanes index events in
-    let second : List PortEvent = at_port (index + 1) events in
-    let more : by_lanes (index + 1) events ≡ first ++ second = by_lanes-next index events in
-    let count : length (by_lanes (index + 1) events) ≡ length first + length second =
-    ap (λ (all : List PortEvent). length all) more ∙ length-append first second in
-    let within : index < length lanes = omega (arith, before.size) in
+    let lane : List Line = c.serve.new.self in
+    let served : List PortEvent = map (act_of c.port_of.result) (slice_index_or lanes index c.index-lanes-place.result) in
+    let first : List PortEvent = acts_among old index in
+    let second : List PortEvent = map (act_of (index + 1)) (slice_index_or old index []) in
+    let here : slice_index_or lanes index c.index-lanes-place.result ≡ slice_index_or old index [] =
+    same_lane lanes old index c.index-lanes-place.result before.size (omega (arith, c.requires.few_used)) before.waiting in
+    let port : c.port_of.result ≡ index + 1 = c.port_of.ensures in
+    let own : served ≡ second = λ i. map (act_of (port i)) (here i) in
+    let more : acts_among old (index + 1) ≡ first ++ second = acts_among-next old index in
+    let size = ap (λ (lines : List Line). length lines) here in
+    let count : length (acts_among old (index + 1)) ≡ length first + length (slice_index_or old index []) =
+    ap (λ (all : List PortEvent). length all) more ∙ length-append first second
+    ∙ ap (λ (some : ℕ). length first + some) (length-map (slice_index_or old index []) (act_of (index + 1))) in
+    let within : index < length lanes = omega (arith, before.size, c.requires.few_used) in
     record {
       size = length-set lanes index lane ∙ before.size;
       stands = λ rules past stands.
-          subst (λ (kept : List PortEvent). StandsFor rules c.serve_lane.new.switch (onto (schedule kept) past)) (sym more)
-          (subst (λ (history : List Seen). StandsFor rules c.serve_lane.new.switch history) (sym (onto-append first second past))
-          (after.stands rules (onto (schedule first) past) (before.stands rules past stands)));
+          subst (λ (kept : List PortEvent). StandsFor rules c.serve.new.switch (onto (schedule kept) past)) (sym more)
+          (subst (λ (history : List Seen). StandsFor rules c.serve.new.switch history) (sym (onto-append first second past))
+          (subst (λ (acts : List PortEvent). StandsFor rules c.serve.new.switch (onto (schedule acts) (onto (schedule first) past))) own
+          (after.stands rules (onto (schedule first) past) (before.stands rules past stands))));
       lines = λ rules past stands place below. elim (eqb_tells place index) [
-        | inl here ↦
-            subst (λ (port : ℕ). slice_index_or (slice_set lanes index lane) port [] ≡ lane_lines rules (port + 1) (schedule events) past) (sym here.1)
+        | inl is ↦
+            subst (λ (at : ℕ). slice_index_or (slice_set lanes index lane) at []
+            ≡ lane_lines rules (at + 1) (schedule (map (act_of (at + 1)) (slice_index_or old at []))) (onto (schedule (acts_among old at)) past)) (sym is.1)
             (get_or-set_same lanes index lane [] within
             ∙ after.lines rules (onto (schedule first) past) (before.stands rules past stands)
-            ∙ lane_lines-after rules index events past)
+            ∙ (λ i. lane_lines rules (port i) (schedule (own i)) (onto (schedule first) past)))
         | inr apart ↦
             get_or-set_other lanes index place lane [] apart.1
             ∙ before.lines rules past stands place (omega (arith, below, apart.1))
       ];
+      waiting = λ place from.
+          get_or-set_other lanes index place lane [] (λ is. absurd (omega (arith, from, is)))
+          ∙ before.waiting place (omega (arith, from));
+      lengths = λ place. elim (eqb_tells place index) [
+        | inl is ↦
+            subst (λ (at : ℕ). length (slice_index_or (slice_set lanes index lane) at []) ≡ length (slice_index_or old at [])) (sym is.1)
+            (ap (λ (lines : List Line). length lines) (get_or-set_same lanes index lane [] within) ∙ after.count ∙ size)
+        | inr apart ↦
+            ap (λ (lines : List Line). length lines) (get_or-set_other lanes index place lane [] apart.1) ∙ before.lengths place
+      ];
       jobs = λ rules past stands.
           after.jobs rules (onto (schedule first) past) (before.stands rules past stands)
-          ∙ ap (λ (jobs : List TimedJob). jobs ++ schedule_jobs rules (schedule second) (onto (schedule first) past)) (before.jobs rules past stands)
+          ∙ (λ i. before.jobs rules past stands i ++ schedule_jobs rules (schedule (own i)) (onto (schedule first) past))
           ∙ sym (schedule_jobs-append rules first second past)
           ∙ ap (λ (kept : List PortEvent). schedule_jobs rules (schedule kept) past) (sym more);
-      few_jobs = omega (arith, count, before.few_jobs, after.few_jobs);
-      served = omega (arith, count, before.served, after.served);
+      few_jobs = omega (arith, count, size, before.few_jobs, after.few_jobs);
+      served = omega (arith, count, size, before.served, after.served);
       ports = after.ports ∙ before.ports;
-      numbered = λ some. after.numbered;
-      visits = let more = ports_with_acts-next index events in omega (arith, more, before.visits, after.visits);
+      visits =
+          let next = lanes_with_acts-next old index in
+          let one = ap one_if_some own in
+          omega (arith, next, one, before.visits, after.visits);
     }
+
+-- the lanes that were gone over have all acts
+all_acts : (lanes : List (List Line)) (place used : ℕ) → place ≡ used → used ≤ MAX_PORTS
+    → ((place : ℕ) → used ≤ place → slice_index_or lanes place [] ≡ []) → acts_among lanes place ≡ acts_among lanes MAX_PORTS
+all_acts lanes place used last few unused =
+    ap (λ (count : ℕ). acts_among lanes count) last ∙ acts_among-unused lanes used MAX_PORTS few unused
 
 pub returns-clause-stands : goal.returns-clause-stands
 returns-clause-stands c = λ rules past stands.
-    let events = c.args.events.now in
-    let last : c.loop-place.place ≡ MAX_PORTS = omega arith in
-    let numbered : AreActsOfPorts events = c.loop-place.invariant.numbered (omega (arith, last)) in
-    same_words_same_switch rules c.loop-place.switch (onto (schedule (by_lanes MAX_PORTS events)) past) (onto (schedule events) past)
-    (same_words rules events past numbered)
-    (subst (λ (count : ℕ). StandsFor rules c.loop-place.switch (onto (schedule (by_lanes count events)) past)) last
-    (c.loop-place.invariant.stands rules past stands))
+    let all = all_acts c.args.lanes.now c.loop-place.place c.args.used (omega arith) c.requires.few_used c.requires.unused in
+    subst (λ (acts : List PortEvent). StandsFor rules c.loop-place.switch (onto (schedule acts) past)) all
+    (c.loop-place.invariant.stands rules past stands)
+
+pub returns-clause-lines : goal.returns-clause-lines
+returns-clause-lines c = λ rules past stands place within.
+    let old : List (List Line) = c.args.lanes.now in
+    let last : c.loop-place.place ≡ c.args.used = omega arith in
+    elim (leb_tells c.args.used place) [
+      | inl above ↦
+          let none = c.requires.unused place above.1 in
+          c.loop-place.invariant.waiting place (omega (arith, last, above.1))
+          ∙ none
+          ∙ ap (λ (lane : List Line). lane_lines rules (place + 1) (schedule (map (act_of (place + 1)) lane))
+          (onto (schedule (acts_among old place)) past)) (sym none)
+      | inr below ↦ c.loop-place.invariant.lines rules past stands place (omega (arith, last, below.1))
+    ]
 
 pub returns-clause-jobs : goal.returns-clause-jobs
 returns-clause-jobs c = λ rules past stands.
-    let events = c.args.events.now in
-    let last : c.loop-place.place ≡ MAX_PORTS = omega arith in
-    let numbered : AreActsOfPorts events = c.loop-place.invariant.numbered (omega (arith, last)) in
-    c.loop-place.invariant.jobs rules past stands
-    ∙ ap (λ (count : ℕ). schedule_jobs rules (schedule (by_lanes count events)) past) last
-    ∙ same_jobs rules events past numbered
+    let all = all_acts c.args.lanes.now c.loop-place.place c.args.used (omega arith) c.requires.few_used c.requires.unused in
+    c.loop-place.invariant.jobs rules past stands ∙ ap (λ (acts : List PortEvent). schedule_jobs rules (schedule acts) past) all
 
 pub returns-clause-served : goal.returns-clause-served
 returns-clause-served c =
-    let events = c.args.events.now in
-    let last : c.loop-place.place ≡ MAX_PORTS = omega arith in
-    let numbered : AreActsOfPorts events = c.loop-place.invariant.numbered (omega (arith, last)) in
-    c.loop-place.invariant.served
-    ∙ ap (λ (count : ℕ). c.args.switch.now.served + length (by_lanes count events)) last
-    ∙ ap (λ (count : ℕ). c.args.switch.now.served + count) (by_lanes-all events numbered)
+    let all = ap (λ (acts : List PortEvent). length acts)
+    (all_acts c.args.lanes.now c.loop-place.place c.args.used (omega arith) c.requires.few_used c.requires.unused) in
+    omega (arith, all, c.loop-place.invariant.served)
 
 pub returns-clause-visits : goal.returns-clause-visits
 returns-clause-visits c =
-    let last : c.loop-place.place ≡ MAX_PORTS = omega arith in
-    subst (λ (count : ℕ). c.loop-place.switch.visits.count ≤ c.args.switch.now.visits.count + ports_with_acts count c.args.events.now) last
-    c.loop-place.invariant.visits
+    let last : c.loop-place.place ≡ c.args.used = omega arith in
+    let all : lanes_with_acts c.args.lanes.now c.loop-place.place ≡ lanes_with_acts c.args.lanes.now MAX_PORTS =
+    ap (λ (count : ℕ). lanes_with_acts c.args.lanes.now count) last
+    ∙ lanes_with_acts-unused c.args.lanes.now c.args.used MAX_PORTS c.requires.few_used c.requires.unused in
+    omega (arith, all, c.loop-place.invariant.visits)

@@ -1,64 +1,40 @@
 -- What happens at the front reaches the ports that it concerns, and the bridge of the one to which the token is routed.
 use Rattle.std.proofs.Common.{◌∷◌, ℕ, Option, Some, refl, sym, subst, ap, ◌∙◌}
 use Rattle.psd_base.specs.declared.act.Answer.{Answer}
-use Rattle.psd_base.specs.declared.act.Side.TheVariants.{Ua}
 use Rattle.psd_base.specs.declared.line.Line.{Line}
 use Rattle.psd_base.specs.Event.{AtFront, TimePasses, PanelMoves, Attaches, Detaches, Replies, Reports, Finishes}
 use Rattle.auth_router.specs.Bridge.{BridgePast}
-use Rattle.switch_core.specs.Bridges.{bridge_after, bridges_of}
+use Rattle.switch_core.specs.Bridges.{bridge_after}
 use Rattle.port_model.specs.Chosen.{given_after, selected_at}
 use Rattle.port_model.specs.FrontEvents.{front_event, front_of}
 use Rattle.switch_core.specs.FrontStands.{FrontStands}
 use Rattle.switch_core.specs.PortsStand.{PortsStand, port_count}
 use Rattle.switch_core.specs.SeatStands.{CanHave, give_count}
 use Rattle.switch_core.specs.SlotStands.{views_of}
-use Rattle.port_model.specs.Token.{token_life, token_port}
 use Rattle.port_model.specs.View.{news_at}
 use Rattle.switch_core.specs.Views.{selected_to}
-use Rattle.switch_core.proofs.Bridging.{answer-acted, jobs-acted}
-use Rattle.switch_core.proofs.Handing.{PortsStand-token}
 use Rattle.switch_core.proofs.Hearing.{PortsStand-heard}
 use Rattle.switch_core.proofs.Plugs.{attach_notes-none, detach_notes-none, done_notes-none, done_orders-none, report_notes-none, report_orders-none}
 use Rattle.switch_core.proofs.Selecting.{can_have, selections-move}
-use Rattle.switch_core.proofs.TokenSelection.{token_answer}
-use Rattle.switch_core.proofs.TokenViews.{bridge_after-act, bridge_after-done, bridge_after-front, bridge_after-km, others_are_down}
+use Rattle.switch_core.proofs.TokenViews.{bridge_after-done, bridge_after-front, others_are_down}
 use Rattle.switch_core.proofs.switch.serve.Goals as goal
 
--- An act at the keyboard and mouse
+-- An act
 
-pub returns-in-Km-clause-front : goal.returns-in-Km-clause-front
-returns-in-Km-clause-front c = λ rules past parts.
-    rw (c.in-Port.is, c.in-Km.is)
-    (subst (λ (b : BridgePast). FrontStands rules c.args.front.now (front_of past) b) (bridge_after-km rules c.args.event.now.tick c.in-Port.port c.in-Port.act.now past) parts.front_stands)
+pub returns-in-Port-clause-ports : goal.returns-in-Port-clause-ports
+returns-in-Port-clause-ports c = λ rules past parts. rw c.in-Port.is (c.serve_act.ensures.ports rules past parts)
 
--- An act at the token connector
+pub returns-in-Port-clause-front : goal.returns-in-Port-clause-front
+returns-in-Port-clause-front c = λ rules past parts. rw c.in-Port.is (c.serve_act.ensures.front rules past parts)
 
-pub returns-in-Ua-clause-ports : goal.returns-in-Ua-clause-ports
-returns-in-Ua-clause-ports c = λ rules past parts.
-    rw (c.in-Port.is, c.in-Ua.is)
-    (PortsStand-token c.args.ports.now c.args.event.now.tick c.in-Port.port c.in-Port.act.now (selected_at rules (front_of past)) (views_of rules past) parts.ports_stand)
+pub returns-in-Port-clause-line : goal.returns-in-Port-clause-line
+returns-in-Port-clause-line c = λ rules past parts.
+    rw c.in-Port.is (ap (λ (answer : Answer).
+    let line : Line = record { tick = c.args.event.now.tick; side = c.in-Port.side; act = c.in-Port.act.now; answer = answer } in Some (c.in-Port.port, line))
+    (c.serve_act.ensures.answer rules past parts))
 
-pub returns-in-Ua-clause-front : goal.returns-in-Ua-clause-front
-returns-in-Ua-clause-front c = λ rules past parts.
-    rw (c.in-Port.is, c.in-Ua.is)
-    (subst (λ (b : BridgePast). FrontStands rules c.answer-in-Ua.new.self (front_of past) b) (bridge_after-act rules c.args.event.now.tick c.in-Port.port c.in-Port.act.now past)
-    (c.answer-in-Ua.ensures.stands rules (front_of past) (bridge_after rules past) parts.front_stands))
-
-pub returns-in-Ua-clause-line : goal.returns-in-Ua-clause-line
-returns-in-Ua-clause-line c = λ rules past parts.
-    let tick = c.args.event.now.tick in
-    let port = c.in-Port.port in
-    let act = c.in-Port.act.now in
-    let answered = c.answer-in-Ua.ensures.answer rules (front_of past) (bridge_after rules past) parts.front_stands
-    ∙ answer-acted (token_port rules (front_of past)) (token_life rules (front_of past)) port act (bridges_of rules past) (others_are_down rules past)
-    ∙ token_answer rules past port tick act in
-    rw (c.in-Port.is, c.in-Ua.is) (ap (λ (answer : Answer). let line : Line = record { tick = tick; side = Ua; act = act; answer = answer } in Some (port, line)) answered)
-
-pub returns-in-Ua-clause-orders : goal.returns-in-Ua-clause-orders
-returns-in-Ua-clause-orders c = λ rules past parts.
-    rw (c.in-Port.is, c.in-Ua.is)
-    (c.answer-in-Ua.ensures.orders rules (front_of past) (bridge_after rules past) parts.front_stands
-    ∙ jobs-acted (token_port rules (front_of past)) (token_life rules (front_of past)) c.in-Port.port c.in-Port.act.now (bridges_of rules past) (others_are_down rules past))
+pub returns-in-Port-clause-orders : goal.returns-in-Port-clause-orders
+returns-in-Port-clause-orders c = λ rules past parts. rw c.in-Port.is (c.serve_act.ensures.orders rules past parts)
 
 -- A clock event
 
