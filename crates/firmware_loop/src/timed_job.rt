@@ -15,15 +15,6 @@ pub struct TimedJob {
 }
 
 impl TimedJob {
-    /// This job, ordered at this tick.
-    pub fn new(tick: Tick, job: &Job) -> TimedJob
-        ensures { result ≡ record { tick = tick; job = job.now } }
-    {
-        let mut copy = TimedJob::blank();
-        copy.write(tick, job);
-        copy
-    }
-
     /// A job to be written over.
     pub(crate) fn blank() -> TimedJob {
         TimedJob {
