@@ -15,11 +15,11 @@ ghost use Rattle.firmware_loop.specs.Batches.{AreKnown, act_of, first_job, jobs_
 use crate::row::Row;
 use crate::timed_job::TimedJob;
 use psd_base::act::{Act, Side};
-use psd_base::console::{Job, Order};
+use psd_base::console::{Job, Order, Orders};
 use psd_base::event::Tick;
 use psd_base::line::Line;
 use psd_base::port::PortId;
-use switch_core::{Switch, Turn};
+use switch_core::Switch;
 
 impl Row<Line> {
     /// Appends an act, which is written over what its place had. There is room for it.
@@ -43,7 +43,7 @@ impl Row<Line> {
         switch: &mut Switch,
         port: PortId,
         jobs: &mut Row<TimedJob>,
-        turn: &mut Turn,
+        orders: &mut Orders,
     )
         requires known { AreKnown (port_total switch.old) (map (act_of port) self.old) }
         requires room { switch.old.served + length self.old ≤ EVENTS_MAX }
@@ -61,7 +61,7 @@ impl Row<Line> {
             ≤ switch.old.visits.count + one_if_some (map (act_of port) self.old) }
         ensures ports { port_total switch.new ≡ port_total switch.old }
     {
-        serve_lines(switch, port, &mut self.places, self.len, jobs, turn);
+        serve_lines(switch, port, &mut self.places, self.len, jobs, orders);
     }
 }
 
@@ -85,7 +85,7 @@ fn serve_lines(
     places: &mut [Line],
     len: usize,
     jobs: &mut Row<TimedJob>,
-    turn: &mut Turn,
+    orders: &mut Orders,
 )
     requires within { len ≤ length places.old }
     requires known { AreKnown (port_total switch.old) (map (act_of port) (take len places.old)) }
@@ -105,7 +105,7 @@ fn serve_lines(
     ensures ports { port_total switch.new ≡ port_total switch.old }
 {
     for place in 0..len {
-        serve_line(switch, port, &mut places[place], jobs, turn);
+        serve_line(switch, port, &mut places[place], jobs, orders);
     }
 }
 
@@ -115,7 +115,7 @@ fn serve_line(
     port: PortId,
     line: &mut Line,
     jobs: &mut Row<TimedJob>,
-    turn: &mut Turn,
+    orders: &mut Orders,
 )
     requires known { port ≤ port_total switch.old }
     requires room { switch.old.served < EVENTS_MAX }
@@ -138,9 +138,9 @@ fn serve_line(
         line.side,
         &line.act,
         &mut line.answer,
-        &mut turn.orders,
+        orders,
     );
-    keep_job(line.tick, turn.orders.as_slice(), jobs);
+    keep_job(line.tick, orders.as_slice(), jobs);
 }
 
 /// Appends the job that an act made, if it made one: an act orders nothing else, and no more than one.

@@ -8,18 +8,19 @@ use crate::batch::BATCH_MAX;
 use crate::row::Row;
 use crate::timed_job::TimedJob;
 use psd_base::act::{Act, Answer, Side};
+use psd_base::console::Orders;
 use psd_base::event::Tick;
 use psd_base::line::Line;
 use psd_base::port::{MAX_PORTS, PortId};
 use std::alloc::{AllocError, Global};
-use switch_core::Turn;
 
 /// The acts that were collected, and what came of them once they were served. All memory is taken when it is made.
 #[derive(Drop)]
 pub struct Lanes {
     pub(crate) lanes: Vec<Row<Line>>,
     pub(crate) jobs: Row<TimedJob>,
-    pub(crate) turn: Turn,
+    /// Room for what one act orders.
+    pub(crate) orders: Orders,
     pub(crate) count: usize,
     /// Lanes at this place and above have no lines.
     pub(crate) used: u8,
@@ -42,13 +43,13 @@ impl Lanes {
         Ok(Lanes {
             lanes: empty_lanes(alloc)?,
             jobs: Row::new(job_places(alloc)?),
-            turn: Turn::new(),
+            orders: Orders::new(),
             count: 0,
             used: 0,
         })
     }
 
-    /// Appends an act to the lane of its port. There is room for it.
+    /// Appends an act to the lane of its port. There is room for it. The tick is in milliseconds.
     #[inline(always)]
     pub fn collect(&mut self, tick: Tick, port: PortId, side: Side, act: &Act)
         requires room { self.old.count < BATCH_MAX }
@@ -96,7 +97,7 @@ impl Lanes {
         self.used
     }
 
-    /// Leaves the lanes without acts.
+    /// Leaves the lanes without acts. The jobs stay until the next `serve`.
     pub fn clear(&mut self)
         ensures { IsCollected [] self.new }
     {
@@ -113,7 +114,7 @@ impl Lanes {
         self.lanes[port.number() as usize - 1].as_slice()
     }
 
-    /// The jobs, each with its tick.
+    /// The jobs that the last `serve` ordered, each with its tick.
     pub fn jobs(&self) -> &[TimedJob]
         ensures { result.now ≡ jobs_of self.now }
     {

@@ -14,13 +14,14 @@ ghost use Rattle.firmware_loop.specs.Lanes.{IsCollected, acts_in, jobs_of, lane_
 use crate::lanes::Lanes;
 use crate::row::Row;
 use crate::timed_job::TimedJob;
+use psd_base::console::Orders;
 use psd_base::line::Line;
 use psd_base::port::PortId;
-use switch_core::{Switch, Turn};
+use switch_core::Switch;
 
 /// Serves the acts that were collected, one port after another, and answers each where it waits. The lanes then have what
 /// came of them, and nothing else: each line and each job is the one that the act gives where the acts are served in the
-/// order in which they came. It takes no memory.
+/// order in which they came. The lines stay until `clear`, the jobs until the next call. It takes no memory.
 pub fn serve(switch: &mut Switch, lanes: &mut Lanes)
     requires known { AreKnown (port_total switch.old) (acts_in lanes.old) }
     requires room { switch.old.served + lanes.old.count ≤ EVENTS_MAX }
@@ -48,7 +49,7 @@ pub fn serve(switch: &mut Switch, lanes: &mut Lanes)
         &mut lanes.lanes,
         lanes.used,
         &mut lanes.jobs,
-        &mut lanes.turn,
+        &mut lanes.orders,
     );
 }
 
@@ -58,7 +59,7 @@ fn serve_lanes(
     lanes: &mut [Row<Line>],
     used: u8,
     jobs: &mut Row<TimedJob>,
-    turn: &mut Turn,
+    orders: &mut Orders,
 )
     requires known { AreKnown (port_total switch.old) (acts_among lanes.old MAX_PORTS) }
     requires room { switch.old.served + length (acts_among lanes.old MAX_PORTS) ≤ EVENTS_MAX }
@@ -85,7 +86,7 @@ fn serve_lanes(
 {
     jobs.clear();
     for place in 0..used {
-        lanes[place as usize].serve(switch, port_of(place + 1), jobs, turn);
+        lanes[place as usize].serve(switch, port_of(place + 1), jobs, orders);
     }
 }
 

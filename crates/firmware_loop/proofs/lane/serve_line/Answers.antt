@@ -1,4 +1,4 @@
--- The job of an act is the only order of its turn.
+-- The job of an act is the only order that it makes.
 use Rattle.std.proofs.Common.{List, ◌++◌, ap, ◌∙◌}
 use Rattle.psd_base.specs.declared.console.Order.{Order}
 use Rattle.firmware_loop.specs.declared.timed_job.TimedJob.{TimedJob}
